@@ -1,0 +1,72 @@
+-- Laws of the search for the first element outside its limits. Assumes nothing.
+use mathlib.Core.Path.{_≡_, refl, sym, ap, _∙_}
+use mathlib.Core.Bool.{Bool, true, false, cond}
+use mathlib.Core.List.{List, [], _∷_}
+use Prim.Native.Nat.{ℕ, zero, suc, _+_, _-_, _<_, _≤_}
+use native.Mathlib.Omega.{arith}
+use native.Mathlib.Numerals.{add-one}
+use lib.Dec.{eqb}
+use lib.ListN.{length, getD, drop}
+use Rattle.std.proofs.shelf.Lists.{at-drop-more, at-drop-all, getD-read}
+use Rattle.std.proofs.shelf.Tests.{cond-true, cond-false, both-ways, cases-bool}
+use Rattle.std.specs.declared.option.Option.{Option}
+use Rattle.std.specs.declared.option.Option.the-variants.{Some, None}
+use Rattle.problem.specs.Search.{first-from, first-outside}
+
+module _ {X : Type 0} (admits : ℕ → Option X → X → Bool) (xs : List X) (i : ℕ) (before : Option X) where
+  -- the answer is that for what is left of the list
+  abbrev pub Left : Type 0
+  Left = first-outside admits xs ≡ first-from admits i before (drop i xs)
+
+  abbrev Here : X → Type 0
+  Here x = first-from admits i before (drop i xs) ≡ cond (admits i before x) (first-from admits (suc i) (Some x) (drop (i + 1) xs)) (Some i)
+
+  here : (x : X) → i < length xs → x ≡ getD xs i x → Here x
+  here x lt read =
+      at-drop-more (first-from admits i before) xs i x lt ∙ ap (λ y. first-from admits i before (y ∷ drop (i + 1) xs)) (sym read)
+
+  pub search-found : (x : X) → Left → i < length xs → x ≡ getD xs i x → admits i before x ≡ false → first-outside admits xs ≡ Some i
+  search-found x left lt read bad = left ∙ here x lt read ∙ cond-false (admits i before x) _ _ bad
+
+  pub search-none : Left → length xs ≤ i → first-outside admits xs ≡ None
+  search-none left past = left ∙ at-drop-all (first-from admits i before) xs i past
+
+pub search-more : {X : Type 0} (admits : ℕ → Option X → X → Bool) (xs : List X) (i : ℕ) (before : Option X) (x : X) → Left admits xs i before → i < length xs → x ≡ getD xs i x → admits i before x ≡ true → Left admits xs (i + 1) (Some x)
+search-more admits xs i before x left lt read good =
+    left ∙ here admits xs i before x lt read ∙ cond-true (admits i before x) _ _ good ∙ ap (λ n. first-from admits n (Some x) (drop (i + 1) xs)) (sym (add-one i))
+
+-- the element before place i, where `before` stands before place 0
+abbrev pub before-at : {X : Type 0} → Option X → List X → ℕ → X → Option X
+before-at before xs zero d = before
+before-at before xs (suc i) d = Some (getD xs i d)
+
+before-more : {X : Type 0} (before : Option X) (x : X) (xs : List X) (i : ℕ) (d : X) → before-at (Some x) xs i d ≡ before-at before (x ∷ xs) (suc i) d
+before-more before x xs zero d = refl
+before-more before x xs (suc i) d = refl
+
+admitted-here : {X : Type 0} (b : Bool) (o : Option X) (x : X) → cond b o (Some x) ≡ None → (b ≡ true) × (o ≡ None)
+admitted-here true o x e = (refl, e)
+admitted-here false o x e = let z : _≡_ {A = ℕ} 0 1 = cc in absurd (omega arith)
+
+module _ {X : Type 0} (admits : ℕ → Option X → X → Bool) (d : X) where
+  -- each element is admitted at its place
+  abbrev pub Admitted : ℕ → Option X → List X → Type 0
+  Admitted j before xs = (i : ℕ) → i < length xs → admits (j + i) (before-at before xs i d) (getD xs i d) ≡ true
+
+  pub admitted-from-none : (j : ℕ) (before : Option X) (xs : List X) → first-from admits j before xs ≡ None → Admitted j before xs
+  admitted-from-none j before [] e i lt = absurd (omega arith)
+  admitted-from-none j before (x ∷ xs) e zero lt =
+      let n : j + 0 ≡ j = omega arith in rw n (admitted-here (admits j before x) _ j e .0)
+  admitted-from-none j before (x ∷ xs) e (suc i) lt =
+      let n : j + suc i ≡ suc j + i = omega arith in
+      rw (n, ← before-more before x xs i d) (admitted-from-none (suc j) (Some x) xs (admitted-here (admits j before x) _ j e .1) i (omega arith))
+
+  pub none-from-admitted : (j : ℕ) (before : Option X) (xs : List X) → Admitted j before xs → first-from admits j before xs ≡ None
+  none-from-admitted j before [] h = refl
+  none-from-admitted j before (x ∷ xs) h =
+      let n : j + 0 ≡ j = omega arith in
+      let now : admits j before x ≡ true = rw n at (h 0 (omega arith)) in
+      cond-true (admits j before x) _ _ now
+      ∙ none-from-admitted (suc j) (Some x) xs (λ i lt.
+      let m : j + suc i ≡ suc j + i = omega arith in
+      rw (← m, before-more before x xs i d) (h (suc i) (omega arith)))
