@@ -41,10 +41,13 @@ slope-from-left g q j = cond (has-left g j) (at q (2 * (j - 1))) (pos 0)
 unfoldable pub slope-from-above : Settings → List ℤ → ℕ → ℤ
 slope-from-above g q j = cond (has-above g j) (at q (2 * (j - g .columns) + 1)) (pos 0)
 
+-- x less the two slopes of pixel j, plus those that come from its neighbours
+unfoldable pub with-slopes : Settings → List ℤ → ℕ → ℤ → ℤ
+with-slopes g q j x = x -ℤ at q (2 * j) -ℤ at q (2 * j + 1) +ℤ slope-from-left g q j +ℤ slope-from-above g q j
+
 -- w(j): ray numbers and slopes carried back to pixel j
 unfoldable pub adjoint : Settings → ScanMeaning → List ℤ → List ℤ → ℕ → ℤ
-adjoint g s p q j =
-    back-projection s p j -ℤ at q (2 * j) -ℤ at q (2 * j + 1) +ℤ slope-from-left g q j +ℤ slope-from-above g q j
+adjoint g s p q j = with-slopes g q j (back-projection s p j)
 
 -- the least that a density within the limits makes of w
 unfoldable pub least-product : Settings → ℤ → ℤ
