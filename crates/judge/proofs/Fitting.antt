@@ -22,8 +22,8 @@ use Rattle.problem.specs.Objective.{Problem}
 use Rattle.problem.specs.Bound.{at}
 use Rattle.problem.specs.Fitting.{Proposal, Fits, has-difference, slope-limit}
 use Rattle.problem.specs.declared.settings.Settings.{Settings}
-use Rattle.problem.specs.declared.refusal.Refusal.{Refusal}
-use Rattle.problem.specs.declared.refusal.Refusal.the-variants.{Pixels, Length, Pixel, RayNumber, Slope}
+use Rattle.refusals.specs.declared.Refusal.{Refusal}
+use Rattle.refusals.specs.declared.Refusal.the-variants.{Pixels, Length, Pixel, RayNumber, Slope}
 use Rattle.problem.proofs.Searching.{admitted-from-none, none-from-admitted, before-at}
 use Rattle.judge.specs.Judging.{density-within, number-within, slope-within, unless, verdict-of, judged}
 use Rattle.judge.specs.Sizes.{Dense, Sized}

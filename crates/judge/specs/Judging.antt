@@ -14,8 +14,8 @@ use Rattle.problem.specs.Objective.{Problem, objective}
 use Rattle.problem.specs.Bound.{bound}
 use Rattle.problem.specs.Fitting.{Proposal, slope-limit}
 use Rattle.problem.specs.declared.settings.Settings.{Settings}
-use Rattle.problem.specs.declared.refusal.Refusal.{Refusal}
-use Rattle.problem.specs.declared.refusal.Refusal.the-variants.{Pixels, Length, Pixel, RayNumber, Slope}
+use Rattle.refusals.specs.declared.Refusal.{Refusal}
+use Rattle.refusals.specs.declared.Refusal.the-variants.{Pixels, Length, Pixel, RayNumber, Slope}
 use Rattle.judge.specs.declared.verdict.Verdict.{Verdict}
 
 -- the limits of the three lists; none of them asks for the element before

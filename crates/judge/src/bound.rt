@@ -6,6 +6,7 @@ ghost use Rattle.algebra.specs.Sums.{sumTo};
 ghost use Rattle.problem.specs.Setting.{pixel-count};
 ghost use Rattle.problem.specs.Scans.{ray-at};
 ghost use Rattle.problem.specs.Bound.{at, ray-pull, back-projection, slope-from-left, slope-from-above, with-slopes, least-product, price-of, reading-term, bound as bound-of};
+ghost use Rattle.problem.specs.Objective.{posed};
 ghost use Rattle.judge.specs.Sizes.{Sized, Light};
 ghost use Rattle.judge.specs.Loops.{product-at};
 use crate::numbers::add_at;
@@ -153,7 +154,7 @@ pub(crate) fn bound<S: Scan, M: Misfit>(
     requires admitted { ⌜ Sized (M·Misfit .meaning (now misfit) .end) (now «ray_numbers») ⌝ }
     requires same { ⌜ length (now slopes) ≡ 2 * pixel-count (now settings) ⌝ }
     requires sized { ⌜ Sized 1048576 (now slopes) ⌝ }
-    ensures value { λ r. ⌜ r ≡ bound-of (record { settings = now (settings .entry); scan = S·Scan .meaning (now (scan .entry)); misfit = M·Misfit .meaning (now (misfit .entry)) }) (now («ray_numbers» .entry)) (now (slopes .entry)) ⌝ }
+    ensures value { λ r. ⌜ r ≡ bound-of (posed (now (settings .entry)) (S·Scan .meaning (now (scan .entry))) (M·Misfit .meaning (now (misfit .entry)))) (now («ray_numbers» .entry)) (now (slopes .entry)) ⌝ }
     ensures size { λ r. ⌜ natAbs r ≤ 3 * 2 ^ 60 ⌝ }
 {
     // a slice has at most 48 × 48 pixels

@@ -4,7 +4,7 @@ ghost use lib.IntN.{pos, natAbs};
 ghost use lib.ListN.{length};
 ghost use Rattle.problem.specs.Setting.{pixel-count};
 ghost use Rattle.problem.specs.Scans.{ray-at};
-ghost use Rattle.problem.specs.Objective.{ray-sum, residual as residual-of, data-cost, right-difference, down-difference, total-variation, objective as objective-of};
+ghost use Rattle.problem.specs.Objective.{ray-sum, residual as residual-of, data-cost, right-difference, down-difference, total-variation, objective as objective-of, posed};
 ghost use Rattle.judge.specs.Sizes.{Dense};
 use problem::misfit::Misfit;
 use problem::scan::Scan;
@@ -94,7 +94,7 @@ pub(crate) fn objective<S: Scan, M: Misfit>(
     image: &[u16],
 ) -> i64
     requires { ⌜ length (now image) ≡ S·Scan .meaning (now scan) .pixels ⌝ ∗ ⌜ length (now image) ≡ pixel-count (now settings) ⌝ ∗ ⌜ Dense (now image) ⌝ }
-    ensures value { λ r. ⌜ r ≡ objective-of (record { settings = now (settings .entry); scan = S·Scan .meaning (now (scan .entry)); misfit = M·Misfit .meaning (now (misfit .entry)) }) (now (image .entry)) ⌝ }
+    ensures value { λ r. ⌜ r ≡ objective-of (posed (now (settings .entry)) (S·Scan .meaning (now (scan .entry))) (M·Misfit .meaning (now (misfit .entry)))) (now (image .entry)) ⌝ }
     ensures size { λ r. ⌜ natAbs r ≤ 2 ^ 57 ⌝ }
 {
     let rough = 2 * settings.strength as u64 * total_variation(settings, image);

@@ -4,7 +4,8 @@ ghost use lib.IntN.{natAbs};
 ghost use Rattle.std.specs.Vec.{made};
 ghost use Rattle.std.specs.Orderings.{Decides};
 ghost use Rattle.std.specs.Results.{isOk};
-ghost use Rattle.problem.specs.Fitting.{Fits};
+ghost use Rattle.problem.specs.Objective.{posed};
+ghost use Rattle.problem.specs.Fitting.{Fits, proposed};
 ghost use Rattle.judge.specs.Judging.{judged};
 use crate::bound::bound;
 use crate::limits::Densities;
@@ -17,9 +18,9 @@ use crate::objective::objective;
 use crate::verdict::Verdict;
 use problem::limits::first_outside;
 use problem::misfit::Misfit;
-use problem::refusal::Refusal;
 use problem::scan::Scan;
 use problem::settings::Settings;
+use refusals::Refusal;
 
 // Judges an image with its ray numbers and slopes: objective and bound, or the first thing that does not fit.
 // It takes no memory from the heap, and one pass over the entries for each of the two numbers.
@@ -31,8 +32,8 @@ pub fn weigh<S: Scan, M: Misfit>(
     ray_numbers: &[i32],
     slopes: &[i32],
 ) -> Result<Verdict, Refusal>
-    ensures value { λ r. ⌜ r ≡ judged (record { settings = now (settings .entry); scan = S·Scan .meaning (now (scan .entry)); misfit = M·Misfit .meaning (now (misfit .entry)) }) (record { image = now (image .entry); ray-numbers = now («ray_numbers» .entry); slopes = now (slopes .entry) }) ⌝ }
-    ensures accepted { λ r. ⌜ Decides (isOk r) (Fits (record { settings = now (settings .entry); scan = S·Scan .meaning (now (scan .entry)); misfit = M·Misfit .meaning (now (misfit .entry)) }) (record { image = now (image .entry); ray-numbers = now («ray_numbers» .entry); slopes = now (slopes .entry) })) ⌝ }
+    ensures value { λ r. ⌜ r ≡ judged (posed (now (settings .entry)) (S·Scan .meaning (now (scan .entry))) (M·Misfit .meaning (now (misfit .entry)))) (proposed (now (image .entry)) (now («ray_numbers» .entry)) (now (slopes .entry))) ⌝ }
+    ensures accepted { λ r. ⌜ Decides (isOk r) (Fits (posed (now (settings .entry)) (S·Scan .meaning (now (scan .entry))) (M·Misfit .meaning (now (misfit .entry)))) (proposed (now (image .entry)) (now («ray_numbers» .entry)) (now (slopes .entry)))) ⌝ }
     ensures room { λ r. ⌜ made r (λ v. natAbs (v .objective) + natAbs (v .bound) < 2 ^ 62) ⌝ }
 {
     judge(settings, scan, misfit, image, ray_numbers, slopes)
@@ -47,7 +48,7 @@ fn judge<S: Scan, M: Misfit>(
     ray_numbers: &[i32],
     slopes: &[i32],
 ) -> Result<Verdict, Refusal>
-    ensures value { λ r. ⌜ r ≡ judged (record { settings = now (settings .entry); scan = S·Scan .meaning (now (scan .entry)); misfit = M·Misfit .meaning (now (misfit .entry)) }) (record { image = now (image .entry); ray-numbers = now («ray_numbers» .entry); slopes = now (slopes .entry) }) ⌝ }
+    ensures value { λ r. ⌜ r ≡ judged (posed (now (settings .entry)) (S·Scan .meaning (now (scan .entry))) (M·Misfit .meaning (now (misfit .entry)))) (proposed (now (image .entry)) (now («ray_numbers» .entry)) (now (slopes .entry))) ⌝ }
     ensures room { λ r. ⌜ made r (λ v. natAbs (v .objective) + natAbs (v .bound) < 2 ^ 62) ⌝ }
 {
     let pixels = settings.pixels();

@@ -3,7 +3,7 @@ ghost use mathlib.Core.Bool.{true, false};
 ghost use Prim.Native.Nat.{_≤_};
 ghost use Rattle.std.specs.Results.{Cases};
 ghost use Rattle.problem.specs.Setting.{between};
-ghost use Rattle.problem.specs.declared.refusal.Refusal.the-variants.{Setting};
+ghost use Rattle.refusals.specs.declared.Refusal.the-variants.{Setting};
 ghost use Rattle.misfits.specs.Meanings.{absolute};
 ghost use Rattle.misfits.specs.Driven.{absolute-driven};
 use crate::WIDEST;
@@ -12,7 +12,7 @@ use crate::product;
 use crate::within;
 use problem::misfit::DrivenMisfit;
 use problem::misfit::Misfit;
-use problem::refusal::Refusal;
+use refusals::Refusal;
 
 // The size of the residual times a slope.
 #[derive(Clone, Copy)]

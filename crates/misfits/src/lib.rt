@@ -46,8 +46,8 @@ mod tests {
     use crate::square::SquareMisfit;
     use problem::misfit::DrivenMisfit;
     use problem::misfit::Misfit;
-    use problem::refusal::Refusal;
-    use problem::refusal::RefusalDebug;
+    use refusals::Refusal;
+    use refusals::RefusalDebug;
     use std::test::*;
 
     #[test]

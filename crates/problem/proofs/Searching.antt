@@ -2,6 +2,7 @@
 use mathlib.Core.Path.{_≡_, refl, sym, ap, _∙_}
 use mathlib.Core.Bool.{Bool, true, false, cond}
 use mathlib.Core.List.{List, [], _∷_}
+use mathlib.Core.Logic.{inl, inr}
 use Prim.Native.Nat.{ℕ, zero, suc, _+_, _-_, _<_, _≤_}
 use native.Mathlib.Omega.{arith}
 use native.Mathlib.Numerals.{add-one}
@@ -44,9 +45,10 @@ before-more : {X : Type 0} (before : Option X) (x : X) (xs : List X) (i : ℕ) (
 before-more before x xs zero d = refl
 before-more before x xs (suc i) d = refl
 
-admitted-here : {X : Type 0} (b : Bool) (o : Option X) (x : X) → cond b o (Some x) ≡ None → (b ≡ true) × (o ≡ None)
-admitted-here true o x e = (refl, e)
-admitted-here false o x e = let z : _≡_ {A = ℕ} 0 1 = cc in absurd (omega arith)
+-- a test that must pass for there to be no answer
+pub first-none : {X : Type 0} (b : Bool) (o : Option X) (x : X) → cond b o (Some x) ≡ None → (b ≡ true) × (o ≡ None)
+first-none true o x e = (refl, e)
+first-none false o x e = let z : _≡_ {A = ℕ} 0 1 = cc in absurd (omega arith)
 
 module _ {X : Type 0} (admits : ℕ → Option X → X → Bool) (d : X) where
   -- each element is admitted at its place
@@ -56,10 +58,10 @@ module _ {X : Type 0} (admits : ℕ → Option X → X → Bool) (d : X) where
   pub admitted-from-none : (j : ℕ) (before : Option X) (xs : List X) → first-from admits j before xs ≡ None → Admitted j before xs
   admitted-from-none j before [] e i lt = absurd (omega arith)
   admitted-from-none j before (x ∷ xs) e zero lt =
-      let n : j + 0 ≡ j = omega arith in rw n (admitted-here (admits j before x) _ j e .0)
+      let n : j + 0 ≡ j = omega arith in rw n (first-none (admits j before x) _ j e .0)
   admitted-from-none j before (x ∷ xs) e (suc i) lt =
       let n : j + suc i ≡ suc j + i = omega arith in
-      rw (n, ← before-more before x xs i d) (admitted-from-none (suc j) (Some x) xs (admitted-here (admits j before x) _ j e .1) i (omega arith))
+      rw (n, ← before-more before x xs i d) (admitted-from-none (suc j) (Some x) xs (first-none (admits j before x) _ j e .1) i (omega arith))
 
   pub none-from-admitted : (j : ℕ) (before : Option X) (xs : List X) → Admitted j before xs → first-from admits j before xs ≡ None
   none-from-admitted j before [] h = refl
@@ -70,3 +72,17 @@ module _ {X : Type 0} (admits : ℕ → Option X → X → Bool) (d : X) where
       ∙ none-from-admitted (suc j) (Some x) xs (λ i lt.
       let m : j + suc i ≡ suc j + i = omega arith in
       rw (← m, before-more before x xs i d) (h (suc i) (omega arith)))
+
+-- the first place outside its limits is a place of the list
+pub found-inside : {X : Type 0} (admits : ℕ → Option X → X → Bool) (i : ℕ) (before : Option X) (xs : List X) (k : ℕ) → first-from admits i before xs ≡ Some k → k < i + length xs
+found-inside admits i before [] k e = let z : _≡_ {A = ℕ} 0 1 = cc in absurd (omega arith)
+found-inside admits i before (x ∷ xs) k e =
+    elim (cases-bool (admits i before x)) [
+      | inl good ↦
+          let h : first-from admits (suc i) (Some x) xs ≡ Some k = sym (cond-true (admits i before x) _ _ good) ∙ e in
+          omega (arith, found-inside admits (suc i) (Some x) xs k h)
+      | inr bad ↦
+          let h : Some i ≡ Some k = sym (cond-false (admits i before x) _ _ bad) ∙ e in
+          let same : i ≡ k = cc in
+          omega arith
+    ]

@@ -17,6 +17,9 @@ pub record Proposal : Type 0 where
   pub ray-numbers : List ℤ
   pub slopes : List ℤ
 
+abbrev pub proposed : List ℕ → List ℤ → List ℤ → Proposal
+proposed u p q = record { image = u; ray-numbers = p; slopes = q }
+
 -- whether the slope k belongs to a difference: slope 2j to the right and slope 2j + 1 to the down difference of pixel j
 abbrev pub has-difference : Settings → ℕ → Bool
 has-difference g k = cond (eqb (k % 2) 0) (has-right g (k / 2)) (has-below g (k / 2))

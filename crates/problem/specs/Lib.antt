@@ -1,4 +1,3 @@
-pub mod Refusals
 pub mod Setting
 pub mod Search
 pub mod Scans

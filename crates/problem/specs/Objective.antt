@@ -16,6 +16,9 @@ pub record Problem : Type 0 where
   pub scan : ScanMeaning
   pub misfit : MisfitMeaning
 
+abbrev pub posed : Settings → ScanMeaning → MisfitMeaning → Problem
+posed g s m = record { settings = g; scan = s; misfit = m }
+
 -- The image v / d has the pixels v(j) / d: v is a list of whole numbers, and d is at least 1.
 
 -- v(j), and 0 past the end of v

@@ -4,8 +4,8 @@ use mathlib.Core.Bool.{Bool, cond, _&&_}
 use lib.Dec.{leb, ltb}
 use Rattle.std.specs.declared.option.Option.{Option}
 use Rattle.std.specs.declared.option.Option.the-variants.{Some, None}
-use Rattle.problem.specs.declared.refusal.Refusal.{Refusal}
-use Rattle.problem.specs.declared.refusal.Refusal.the-variants.{Size, Density, Strength, Setting}
+use Rattle.refusals.specs.declared.Refusal.{Refusal}
+use Rattle.refusals.specs.declared.Refusal.the-variants.{Size, Density, Strength, Setting}
 use Rattle.problem.specs.declared.settings.Settings.{Settings}
 
 -- whether low ≤ x ≤ high

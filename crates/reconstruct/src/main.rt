@@ -1,5 +1,178 @@
+// Loads two small slices, judges proposals for them, and prints what the judge tells of each.
+mod proposal;
+mod slices;
+
+use crate::proposal::Proposal;
+use crate::proposal::tell;
+use crate::proposal::tell_refusal;
+use crate::slices::six_pixels;
+use crate::slices::six_settings;
+use crate::slices::two_pixels;
+use crate::slices::two_settings;
+use misfits::absolute::Absolute;
+use misfits::absolute::AbsoluteMisfit;
+use misfits::square::Square;
+use misfits::square::SquareMisfit;
+use problem::misfit::Misfit;
+use problem::settings::Settings;
+use refusals::RefusalDebug;
+use refusals::RefusalDisplay;
+use refusals::RefusalError;
+use scans::stored::StoredScan;
+use scans::stored::questions::StoredQuestions;
+use std::error::AnyError;
 use std::io;
 
-fn main(rt: LibcRuntime) -> io::Result<()> {
-    println!(rt, "temlovit")
+fn main(rt: LibcRuntime) -> Result<(), AnyError> {
+    rt.report(run(&rt))
+}
+
+fn run(rt: &LibcRuntime) -> Result<(), AnyError> {
+    let heap = rt.alloc();
+    let absolute = Absolute::new(3)?;
+    let two = two_settings()?;
+    let mut scan = two_pixels(heap, &two)?;
+    println!(
+        rt,
+        "Two pixels side by side, densities 0 to 10, strength 1, one ray each, readings 4 and 8"
+    )?;
+    println!(rt, " by the square of the residual")?;
+    judge_two(rt, &two, &scan, &Square)?;
+    println!(rt, " by its absolute value, slope 3")?;
+    judge_two(rt, &two, &scan, &absolute)?;
+    println!(rt, " what does not fit")?;
+    refuse_two(rt, &two, &scan)?;
+    let answer = scan.load(heap, &[0, 1, 2], &[(0, 1), (2, 1)], &[4, 8]);
+    tell_refusal(rt, "a table with an entry past the slice", answer)?;
+    let six = six_settings()?;
+    tell(
+        rt,
+        &six,
+        &scan,
+        &Square,
+        nothing("settings of another slice"),
+    )?;
+    println!(
+        rt,
+        "Three columns and two rows, densities 2 to 9, strength 6, four rays"
+    )?;
+    let scan = six_pixels(heap, &six)?;
+    println!(rt, " by the square of the residual")?;
+    judge_six(rt, &six, &scan, &Square)?;
+    println!(rt, " by its absolute value, slope 3")?;
+    judge_six(rt, &six, &scan, &absolute)?;
+    Ok(())
+}
+
+// A proposal of three empty lists.
+fn nothing(name: &str) -> Proposal<'_> {
+    Proposal {
+        name,
+        image: &[],
+        ray_numbers: &[],
+        slopes: &[],
+    }
+}
+
+fn judge_two<M: Misfit>(
+    rt: &LibcRuntime,
+    settings: &Settings,
+    scan: &StoredScan,
+    misfit: &M,
+) -> io::Result<()> {
+    let proposals = [
+        Proposal {
+            name: "the readings, no dual numbers",
+            image: &[4, 8],
+            ray_numbers: &[0, 0],
+            slopes: &[0, 0, 0, 0],
+        },
+        Proposal {
+            name: "a flat image, dual numbers of 2",
+            image: &[6, 6],
+            ray_numbers: &[2, -2],
+            slopes: &[1, 0, 0, 0],
+        },
+        Proposal {
+            name: "the readings, dual numbers of 1",
+            image: &[4, 8],
+            ray_numbers: &[1, -1],
+            slopes: &[1, 0, 0, 0],
+        },
+        Proposal {
+            name: "in between, dual numbers of 1",
+            image: &[5, 7],
+            ray_numbers: &[1, -1],
+            slopes: &[1, 0, 0, 0],
+        },
+    ];
+    for proposal in proposals {
+        tell(rt, settings, scan, misfit, proposal)?;
+    }
+    Ok(())
+}
+
+fn refuse_two(rt: &LibcRuntime, settings: &Settings, scan: &StoredScan) -> io::Result<()> {
+    let proposals = [
+        Proposal {
+            name: "an image of three pixels",
+            image: &[5, 7, 5],
+            ray_numbers: &[0, 0],
+            slopes: &[0, 0, 0, 0],
+        },
+        Proposal {
+            name: "a pixel that is too dense",
+            image: &[5, 11],
+            ray_numbers: &[0, 0],
+            slopes: &[0, 0, 0, 0],
+        },
+        Proposal {
+            name: "a ray number that is too large",
+            image: &[5, 7],
+            ray_numbers: &[0, 4_194_305],
+            slopes: &[0, 0, 0, 0],
+        },
+        Proposal {
+            name: "a slope above the strength",
+            image: &[5, 7],
+            ray_numbers: &[0, 0],
+            slopes: &[2, 0, 0, 0],
+        },
+        Proposal {
+            name: "a slope where the slice ends",
+            image: &[5, 7],
+            ray_numbers: &[0, 0],
+            slopes: &[0, 1, 0, 0],
+        },
+    ];
+    for proposal in proposals {
+        tell(rt, settings, scan, &Square, proposal)?;
+    }
+    Ok(())
+}
+
+fn judge_six<M: Misfit>(
+    rt: &LibcRuntime,
+    settings: &Settings,
+    scan: &StoredScan,
+    misfit: &M,
+) -> io::Result<()> {
+    let proposals = [
+        Proposal {
+            name: "a flat image, no dual numbers",
+            image: &[5, 5, 5, 5, 5, 5],
+            ray_numbers: &[0, 0, 0, 0],
+            slopes: &[0, 0, 0, 0, 0, 0, 0, 0, 0, 0, 0, 0],
+        },
+        Proposal {
+            name: "a rough image, slopes of all kinds",
+            image: &[4, 7, 2, 9, 3, 5],
+            ray_numbers: &[2, -3, 1, -1],
+            slopes: &[5, -2, -4, 6, 0, 3, -6, 0, 1, 0, 0, 0],
+        },
+    ];
+    for proposal in proposals {
+        tell(rt, settings, scan, misfit, proposal)?;
+    }
+    Ok(())
 }

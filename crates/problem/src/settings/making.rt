@@ -3,8 +3,8 @@ ghost use Prim.Native.Nat.{_*_};
 ghost use Rattle.std.specs.declared.option.Option.the-variants.{Some, None};
 ghost use Rattle.std.specs.Results.{Cases};
 ghost use Rattle.problem.specs.Setting.{settings-fault, pixel-count};
-use crate::refusal::Refusal;
 use crate::settings::Settings;
+use refusals::Refusal;
 
 impl Settings {
     // Settings of these numbers, or the first rule that they break.

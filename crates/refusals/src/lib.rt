@@ -1,10 +1,13 @@
 ghost use mathlib.Core.Path.{_≡_};
-ghost use Rattle.problem.specs.Refusals.{number-of, place-of};
+ghost use Rattle.std.specs.declared.option.Option.the-variants.{Some};
+ghost use Rattle.refusals.specs.declared.Refusal.the-variants.{OutOfMemory};
+ghost use Rattle.refusals.specs.Telling.{number-of, place-of, words-of, told, same};
 use std::alloc::AllocError;
+use std::error::Error;
 use std::fmt;
 
 // Why a call answers nothing. Each case has its number and its place; a refused call has changed nothing.
-#[derive(Clone, Copy, PartialEq, Eq, Debug)]
+#[derive(Clone, Copy)]
 pub enum Refusal {
     OutOfMemory,
     Size,
@@ -68,7 +71,9 @@ impl Refusal {
     }
 
     // What is wrong, in words.
-    fn words(&self) -> &'static str {
+    fn words(&self) -> &'static str
+        ensures { λ r. ⌜ now r ≡ words-of (now (self .entry)) ⌝ }
+    {
         match self {
             Refusal::OutOfMemory => "memory: no memory is left for what was asked",
             Refusal::Size => "size: columns and rows are 1 to 48 each",
@@ -92,6 +97,8 @@ impl Refusal {
 }
 
 pub impl fmt::Display for Refusal as RefusalDisplay {
+    ghost shown = { λ e. Some (told e) };
+
     fn fmt<W: fmt::Write>(&self, f: &mut fmt::Formatter<W>) -> fmt::Result {
         let number = self.number();
         let place = self.place();
@@ -101,7 +108,26 @@ pub impl fmt::Display for Refusal as RefusalDisplay {
 }
 
 pub impl From<AllocError> for Refusal as RefusalFromAllocError {
+    ghost converts = { λ _ r. r ≡ OutOfMemory };
+
     fn from(_: AllocError) -> Refusal {
         Refusal::OutOfMemory
+    }
+}
+
+pub impl Error for Refusal as RefusalError {}
+
+// A refusal is known by its number and its place.
+pub impl PartialEq<Refusal> for Refusal as RefusalPartialEq {
+    ghost equals = { λ x y r. r ≡ same x y };
+
+    fn eq(&self, other: &Refusal) -> bool {
+        self.number() == other.number() && self.place() == other.place()
+    }
+}
+
+pub impl fmt::Debug for Refusal as RefusalDebug {
+    fn fmt<W: fmt::Write>(&self, f: &mut fmt::Formatter<W>) -> fmt::Result {
+        write!(f, "{self}")
     }
 }

@@ -1,0 +1,5 @@
+pub mod Firsts
+pub mod Faultless
+pub mod Crossings
+pub mod Laws
+pub mod Shape

@@ -1,0 +1,4 @@
+pub mod Choosing
+pub mod Loading
+pub mod Tables
+pub mod Stored
