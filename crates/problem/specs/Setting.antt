@@ -1,5 +1,6 @@
 -- Which numbers make settings, and the pixels of a slice. Assumes nothing.
 use Prim.Native.Nat.{ℕ, _*_, _+_, _/_, _%_}
+use mathlib.Core.Path.{_≡_}
 use mathlib.Core.Bool.{Bool, cond, _&&_}
 use lib.Dec.{leb, ltb}
 use Rattle.std.specs.declared.option.Option.{Option}
@@ -22,6 +23,15 @@ settings-fault columns rows lowest highest strength tolerance =
     (Some Strength))
     (Some Density))
     (Some Size)
+
+-- settings that hold these numbers
+pub record Holds (columns rows lowest highest strength tolerance : ℕ) (s : Settings) : Type 0 where
+  pub columns-is : s .columns ≡ columns
+  pub rows-is : s .rows ≡ rows
+  pub lowest-is : s .lowest ≡ lowest
+  pub highest-is : s .highest ≡ highest
+  pub strength-is : s .strength ≡ strength
+  pub tolerance-is : s .tolerance ≡ tolerance
 
 -- pixel j is in row j / columns and column j % columns
 abbrev pub pixel-count : Settings → ℕ

@@ -5,20 +5,17 @@ mod slices;
 use crate::proposal::Proposal;
 use crate::proposal::tell;
 use crate::proposal::tell_refusal;
+use crate::slices::Slice;
 use crate::slices::six_pixels;
-use crate::slices::six_settings;
 use crate::slices::two_pixels;
-use crate::slices::two_settings;
 use misfits::absolute::Absolute;
 use misfits::absolute::AbsoluteMisfit;
 use misfits::square::Square;
 use misfits::square::SquareMisfit;
 use problem::misfit::Misfit;
-use problem::settings::Settings;
 use refusals::RefusalDebug;
 use refusals::RefusalDisplay;
 use refusals::RefusalError;
-use scans::stored::StoredScan;
 use scans::stored::questions::StoredQuestions;
 use std::error::AnyError;
 use std::io;
@@ -30,25 +27,24 @@ fn main(rt: LibcRuntime) -> Result<(), AnyError> {
 fn run(rt: &LibcRuntime) -> Result<(), AnyError> {
     let heap = rt.alloc();
     let absolute = Absolute::new(3)?;
-    let two = two_settings()?;
-    let mut scan = two_pixels(heap, &two)?;
+    let mut two = two_pixels(heap)?;
     println!(
         rt,
         "Two pixels side by side, densities 0 to 10, strength 1, one ray each, readings 4 and 8"
     )?;
     println!(rt, " by the square of the residual")?;
-    judge_two(rt, &two, &scan, &Square)?;
+    judge_two(rt, &two, &Square)?;
     println!(rt, " by its absolute value, slope 3")?;
-    judge_two(rt, &two, &scan, &absolute)?;
+    judge_two(rt, &two, &absolute)?;
     println!(rt, " what does not fit")?;
-    refuse_two(rt, &two, &scan)?;
-    let answer = scan.load(heap, &[0, 1, 2], &[(0, 1), (2, 1)], &[4, 8]);
+    refuse_two(rt, &two)?;
+    let answer = two.scan.load(heap, &[0, 1, 2], &[(0, 1), (2, 1)], &[4, 8]);
     tell_refusal(rt, "a table with an entry past the slice", answer)?;
-    let six = six_settings()?;
+    let six = six_pixels(heap)?;
     tell(
         rt,
-        &six,
-        &scan,
+        &six.settings,
+        &two.scan,
         &Square,
         nothing("settings of another slice"),
     )?;
@@ -56,11 +52,10 @@ fn run(rt: &LibcRuntime) -> Result<(), AnyError> {
         rt,
         "Three columns and two rows, densities 2 to 9, strength 6, four rays"
     )?;
-    let scan = six_pixels(heap, &six)?;
     println!(rt, " by the square of the residual")?;
-    judge_six(rt, &six, &scan, &Square)?;
+    judge_six(rt, &six, &Square)?;
     println!(rt, " by its absolute value, slope 3")?;
-    judge_six(rt, &six, &scan, &absolute)?;
+    judge_six(rt, &six, &absolute)?;
     Ok(())
 }
 
@@ -74,12 +69,7 @@ fn nothing(name: &str) -> Proposal<'_> {
     }
 }
 
-fn judge_two<M: Misfit>(
-    rt: &LibcRuntime,
-    settings: &Settings,
-    scan: &StoredScan,
-    misfit: &M,
-) -> io::Result<()> {
+fn judge_two<M: Misfit>(rt: &LibcRuntime, slice: &Slice, misfit: &M) -> io::Result<()> {
     let proposals = [
         Proposal {
             name: "the readings, no dual numbers",
@@ -107,12 +97,12 @@ fn judge_two<M: Misfit>(
         },
     ];
     for proposal in proposals {
-        tell(rt, settings, scan, misfit, proposal)?;
+        tell(rt, &slice.settings, &slice.scan, misfit, proposal)?;
     }
     Ok(())
 }
 
-fn refuse_two(rt: &LibcRuntime, settings: &Settings, scan: &StoredScan) -> io::Result<()> {
+fn refuse_two(rt: &LibcRuntime, slice: &Slice) -> io::Result<()> {
     let proposals = [
         Proposal {
             name: "an image of three pixels",
@@ -146,17 +136,12 @@ fn refuse_two(rt: &LibcRuntime, settings: &Settings, scan: &StoredScan) -> io::R
         },
     ];
     for proposal in proposals {
-        tell(rt, settings, scan, &Square, proposal)?;
+        tell(rt, &slice.settings, &slice.scan, &Square, proposal)?;
     }
     Ok(())
 }
 
-fn judge_six<M: Misfit>(
-    rt: &LibcRuntime,
-    settings: &Settings,
-    scan: &StoredScan,
-    misfit: &M,
-) -> io::Result<()> {
+fn judge_six<M: Misfit>(rt: &LibcRuntime, slice: &Slice, misfit: &M) -> io::Result<()> {
     let proposals = [
         Proposal {
             name: "a flat image, no dual numbers",
@@ -172,7 +157,7 @@ fn judge_six<M: Misfit>(
         },
     ];
     for proposal in proposals {
-        tell(rt, settings, scan, misfit, proposal)?;
+        tell(rt, &slice.settings, &slice.scan, misfit, proposal)?;
     }
     Ok(())
 }

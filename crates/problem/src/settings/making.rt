@@ -2,7 +2,7 @@ ghost use mathlib.Core.Path.{_≡_};
 ghost use Prim.Native.Nat.{_*_};
 ghost use Rattle.std.specs.declared.option.Option.the-variants.{Some, None};
 ghost use Rattle.std.specs.Results.{Cases};
-ghost use Rattle.problem.specs.Setting.{settings-fault, pixel-count};
+ghost use Rattle.problem.specs.Setting.{settings-fault, pixel-count, Holds};
 use crate::settings::Settings;
 use refusals::Refusal;
 
@@ -16,7 +16,7 @@ impl Settings {
         strength: u32,
         tolerance: u64,
     ) -> Result<Settings, Refusal>
-        ensures { λ r. ⌜ Cases r (λ s. (settings-fault columns rows lowest highest strength tolerance ≡ None) × (s .columns ≡ columns) × (s .rows ≡ rows) × (s .lowest ≡ lowest) × (s .highest ≡ highest) × (s .strength ≡ strength) × (s .tolerance ≡ tolerance)) (λ e. settings-fault columns rows lowest highest strength tolerance ≡ Some e) ⌝ }
+        ensures { λ r. ⌜ Cases r (λ s. (settings-fault columns rows lowest highest strength tolerance ≡ None) × Holds columns rows lowest highest strength tolerance s) (λ e. settings-fault columns rows lowest highest strength tolerance ≡ Some e) ⌝ }
     {
         if columns < 1 || columns > 48 || rows < 1 || rows > 48 {
             return Err(Refusal::Size);
