@@ -13,9 +13,14 @@ mod tests {
     use judge::verdict::VerdictPartialEq;
     use judge::weigh::weigh;
     use misfits::absolute::Absolute;
+    use misfits::absolute::AbsoluteDriven;
     use misfits::absolute::AbsoluteMisfit;
     use misfits::square::Square;
+    use misfits::square::SquareDriven;
     use misfits::square::SquareMisfit;
+    use problem::misfit::DrivenMisfit;
+    use problem::misfit::Misfit;
+    use problem::scan::Scan;
     use problem::settings::Settings;
     use refusals::Refusal;
     use refusals::RefusalDebug;
@@ -80,5 +85,53 @@ mod tests {
             &[0, 0, 0, 0],
         );
         check_eq(largest, told(6, -17_592_253_153_280))
+    }
+
+    #[test]
+    fn a_stored_scan_answers_what_was_loaded(rt: LibcRuntime) -> Result<(), Fail> {
+        let settings = Settings::new(2, 1, 0, 10, 1, 0)?;
+        let scan = two_rays(rt.alloc(), &settings)?;
+        check_eq(scan.pixels(), 2)?;
+        check_eq(scan.rays(), 2)?;
+        check_eq(scan.entries(1), 1)?;
+        check_eq(scan.entry(1, 0), Some((1, 1)))?;
+        check_eq(scan.entry(1, 1), None)?;
+        check_eq(scan.reading(1), 8)?;
+        check_eq(scan.ray_cap(), 31)?;
+        check_eq(scan.pixel_cap(), 62)?;
+        check_eq(scan.reading_cap(), 8)
+    }
+
+    #[test]
+    fn a_refused_load_changes_nothing(rt: LibcRuntime) -> Result<(), Fail> {
+        let settings = Settings::new(2, 1, 0, 10, 1, 0)?;
+        let mut scan = two_rays(rt.alloc(), &settings)?;
+        let refused = scan.load(rt.alloc(), &[0, 1, 2], &[(0, 1), (2, 1)], &[5, 5]);
+        check_eq(refused, Err(Refusal::Entry(1)))?;
+        check_eq(scan.entry(1, 0), Some((1, 1)))?;
+        check_eq(scan.reading(0), 4)
+    }
+
+    #[test]
+    fn the_square_misfit_answers() -> Result<(), Fail> {
+        check_eq(Square.cost(3), 9)?;
+        check_eq(Square.cost(4_194_305), 0)?;
+        check_eq(Square.conjugate(-4_194_304), 17_592_186_044_416)?;
+        check_eq(Square.conjugate(4_194_305), 0)?;
+        check_eq(Square.subgradient(-7), -7)?;
+        check(Square.proximal(6.0, 0.5) == 4.0)
+    }
+
+    #[test]
+    fn the_absolute_misfit_answers() -> Result<(), Fail> {
+        check(matches!(Absolute::new(0), Err(Refusal::Setting)))?;
+        check(matches!(Absolute::new(1025), Err(Refusal::Setting)))?;
+        let misfit = Absolute::new(3)?;
+        check_eq(misfit.cost(-2), 12)?;
+        check_eq(misfit.cost(i64::MIN), 0)?;
+        check_eq(misfit.end(), 3)?;
+        check_eq(misfit.subgradient(-2), -3)?;
+        check_eq(misfit.subgradient(0), 0)?;
+        check(misfit.proximal(-3.5, 1.0) == -3.0)
     }
 }

@@ -25,38 +25,45 @@ fn main(rt: LibcRuntime) -> Result<(), AnyError> {
 }
 
 fn run(rt: &LibcRuntime) -> Result<(), AnyError> {
-    let heap = rt.alloc();
     let absolute = Absolute::new(3)?;
-    let mut two = two_pixels(heap)?;
+    let mut two = two_pixels(rt.alloc())?;
+    let six = six_pixels(rt.alloc())?;
+    show_two(rt, &two, &absolute)?;
+    show_refused(rt, &mut two, &six)?;
+    show_six(rt, &six, &absolute)?;
+    Ok(())
+}
+
+fn show_two(rt: &LibcRuntime, two: &Slice, absolute: &Absolute) -> io::Result<()> {
     println!(
         rt,
         "Two pixels side by side, densities 0 to 10, strength 1, one ray each, readings 4 and 8"
     )?;
     println!(rt, " by the square of the residual")?;
-    judge_two(rt, &two, &Square)?;
+    judge_two(rt, two, &Square)?;
     println!(rt, " by its absolute value, slope 3")?;
-    judge_two(rt, &two, &absolute)?;
+    judge_two(rt, two, absolute)
+}
+
+fn show_refused(rt: &LibcRuntime, two: &mut Slice, six: &Slice) -> io::Result<()> {
     println!(rt, " what does not fit")?;
-    refuse_two(rt, &two)?;
-    let answer = two.scan.load(heap, &[0, 1, 2], &[(0, 1), (2, 1)], &[4, 8]);
-    tell_refusal(rt, "a table with an entry past the slice", answer)?;
-    let six = six_pixels(heap)?;
-    tell(
-        rt,
-        &six.settings,
-        &two.scan,
-        &Square,
-        nothing("settings of another slice"),
-    )?;
+    refuse_two(rt, two)?;
+    let name = "settings of another slice";
+    tell(rt, &six.settings, &two.scan, &Square, nothing(name))?;
+    let answer = two.scan
+        .load(rt.alloc(), &[0, 1, 2], &[(0, 1), (2, 1)], &[4, 8]);
+    tell_refusal(rt, "a table with an entry past the slice", answer)
+}
+
+fn show_six(rt: &LibcRuntime, six: &Slice, absolute: &Absolute) -> io::Result<()> {
     println!(
         rt,
         "Three columns and two rows, densities 2 to 9, strength 6, four rays"
     )?;
     println!(rt, " by the square of the residual")?;
-    judge_six(rt, &six, &Square)?;
+    judge_six(rt, six, &Square)?;
     println!(rt, " by its absolute value, slope 3")?;
-    judge_six(rt, &six, &absolute)?;
-    Ok(())
+    judge_six(rt, six, absolute)
 }
 
 // A proposal of three empty lists.

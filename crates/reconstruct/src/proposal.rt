@@ -8,7 +8,7 @@ use std::io;
 
 // An image with its dual numbers, under a name for the person who reads.
 #[derive(Clone, Copy)]
-pub struct Proposal<'a> {
+pub(crate) struct Proposal<'a> {
     pub name: &'a str,
     pub image: &'a [u16],
     pub ray_numbers: &'a [i32],
@@ -16,7 +16,7 @@ pub struct Proposal<'a> {
 }
 
 // Judges a proposal and prints one line of it.
-pub fn tell<S: Scan, M: Misfit>(
+pub(crate) fn tell<S: Scan, M: Misfit>(
     rt: &LibcRuntime,
     settings: &Settings,
     scan: &S,
@@ -46,7 +46,11 @@ pub fn tell<S: Scan, M: Misfit>(
 }
 
 // Prints one line of an answer that is only told where it is a refusal.
-pub fn tell_refusal(rt: &LibcRuntime, name: &str, answer: Result<(), Refusal>) -> io::Result<()> {
+pub(crate) fn tell_refusal(
+    rt: &LibcRuntime,
+    name: &str,
+    answer: Result<(), Refusal>,
+) -> io::Result<()> {
     match answer {
         Ok(()) => println!(rt, "  {name:<38} accepted"),
         Err(refusal) => println!(rt, "  {name:<38} {refusal}"),

@@ -11,13 +11,13 @@ use std::alloc::Global;
 
 // A slice with its scan.
 #[derive(Drop)]
-pub struct Slice {
+pub(crate) struct Slice {
     pub settings: Settings,
     pub scan: StoredScan,
 }
 
 // Two pixels side by side, densities 0 to 10, strength 1. Each is crossed by a ray of its own, with the readings 4 and 8.
-pub fn two_pixels(heap: Global) -> Result<Slice, Refusal>
+pub(crate) fn two_pixels(heap: Global) -> Result<Slice, Refusal>
     ensures { λ r. ⌜ Cases r (λ s. Holds 2 1 0 10 1 0 (s .settings) × (stored-meaning (s .scan) ≡ two-rays)) (λ e. e ≡ OutOfMemory) ⌝ }
 {
     let settings = Settings::new(2, 1, 0, 10, 1, 0)?;
@@ -27,7 +27,7 @@ pub fn two_pixels(heap: Global) -> Result<Slice, Refusal>
 }
 
 // Three columns and two rows, densities 2 to 9, strength 6. Of its four rays one crosses nothing.
-pub fn six_pixels(heap: Global) -> Result<Slice, Refusal>
+pub(crate) fn six_pixels(heap: Global) -> Result<Slice, Refusal>
     ensures { λ r. ⌜ Cases r (λ s. Holds 3 2 2 9 6 0 (s .settings) × (stored-meaning (s .scan) ≡ six-rays)) (λ e. e ≡ OutOfMemory) ⌝ }
 {
     let settings = Settings::new(3, 2, 2, 9, 6, 0)?;
