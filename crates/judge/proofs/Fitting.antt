@@ -17,14 +17,14 @@ use Rattle.std.specs.declared.result.Result.the-variants.{Ok, Err}
 use Rattle.std.proofs.shelf.Lists.{getD-past}
 use Rattle.std.proofs.shelf.Tests.{cases-lt, and-parts, and-from, leb-true, le-leb, eqb-true, eq-eqb, cond-true}
 use Rattle.problem.specs.Setting.{between, pixel-count, has-right}
-use Rattle.problem.specs.Search.{first-outside}
+use Rattle.problem.specs.Search.{first-outside, before-at}
 use Rattle.problem.specs.Objective.{Problem}
 use Rattle.problem.specs.Bound.{at}
 use Rattle.problem.specs.Fitting.{Proposal, Fits, has-difference, slope-limit}
 use Rattle.problem.specs.declared.settings.Settings.{Settings}
 use Rattle.refusals.specs.declared.Refusal.{Refusal}
 use Rattle.refusals.specs.declared.Refusal.the-variants.{Pixels, Length, Pixel, RayNumber, Slope}
-use Rattle.problem.proofs.Searching.{admitted-from-none, none-from-admitted, before-at}
+use Rattle.problem.proofs.Searching.{admitted-from-none, none-from-admitted}
 use Rattle.judge.specs.Judging.{density-within, number-within, slope-within, unless, verdict-of, judged}
 use Rattle.judge.specs.Sizes.{Dense, Sized}
 use Rattle.judge.specs.declared.verdict.Verdict.{Verdict}

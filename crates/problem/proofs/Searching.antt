@@ -12,7 +12,7 @@ use Rattle.std.proofs.shelf.Lists.{at-drop-more, at-drop-all, getD-read}
 use Rattle.std.proofs.shelf.Tests.{cond-true, cond-false, both-ways, cases-bool}
 use Rattle.std.specs.declared.option.Option.{Option}
 use Rattle.std.specs.declared.option.Option.the-variants.{Some, None}
-use Rattle.problem.specs.Search.{first-from, first-outside}
+use Rattle.problem.specs.Search.{first-from, first-outside, before-at, admitted-at, FirstOutside, Tells-first-outside}
 
 module _ {X : Type 0} (admits : ℕ → Option X → X → Bool) (xs : List X) (i : ℕ) (before : Option X) where
   -- the answer is that for what is left of the list
@@ -35,11 +35,6 @@ module _ {X : Type 0} (admits : ℕ → Option X → X → Bool) (xs : List X) (
 pub search-more : {X : Type 0} (admits : ℕ → Option X → X → Bool) (xs : List X) (i : ℕ) (before : Option X) (x : X) → Left admits xs i before → i < length xs → x ≡ getD xs i x → admits i before x ≡ true → Left admits xs (i + 1) (Some x)
 search-more admits xs i before x left lt read good =
     left ∙ here admits xs i before x lt read ∙ cond-true (admits i before x) _ _ good ∙ ap (λ n. first-from admits n (Some x) (drop (i + 1) xs)) (sym (add-one i))
-
--- the element before place i, where `before` stands before place 0
-abbrev pub before-at : {X : Type 0} → Option X → List X → ℕ → X → Option X
-before-at before xs zero d = before
-before-at before xs (suc i) d = Some (getD xs i d)
 
 before-more : {X : Type 0} (before : Option X) (x : X) (xs : List X) (i : ℕ) (d : X) → before-at (Some x) xs i d ≡ before-at before (x ∷ xs) (suc i) d
 before-more before x xs zero d = refl
@@ -86,3 +81,54 @@ found-inside admits i before (x ∷ xs) k e =
           let same : i ≡ k = cc in
           omega arith
     ]
+
+-- the element that was found, i places from where the search began
+record Found {X : Type 0} (admits : ℕ → Option X → X → Bool) (d : X) (j : ℕ) (before : Option X) (xs : List X) (k i : ℕ) : Type 0 where
+  at-place : k ≡ j + i
+  inside : i < length xs
+  outside : admits (j + i) (before-at before xs i d) (getD xs i d) ≡ false
+  within : (m : ℕ) → m < i → admits (j + m) (before-at before xs m d) (getD xs m d) ≡ true
+
+module _ {X : Type 0} (admits : ℕ → Option X → X → Bool) (d : X) where
+  one-on : (j : ℕ) (before : Option X) (x : X) (xs : List X) (i : ℕ) (b : Bool) → admits (suc j + i) (before-at (Some x) xs i d) (getD xs i d) ≡ b → admits (j + suc i) (before-at before (x ∷ xs) (suc i) d) (getD xs i d) ≡ b
+  one-on j before x xs i b e =
+      let n : j + suc i ≡ suc j + i = omega arith in
+      rw (n, ← before-more before x xs i d) e
+
+  found-at : (j : ℕ) (before : Option X) (xs : List X) (k : ℕ) → first-from admits j before xs ≡ Some k → (i : ℕ) × Found admits d j before xs k i
+  found-at j before [] k e = let z : _≡_ {A = ℕ} 0 1 = cc in absurd (omega arith)
+  found-at j before (x ∷ xs) k e =
+      let n : j + 0 ≡ j = omega arith in
+      elim (cases-bool (admits j before x)) [
+        | inl good ↦
+            let h : first-from admits (suc j) (Some x) xs ≡ Some k = sym (cond-true (admits j before x) _ _ good) ∙ e in
+            let f = found-at (suc j) (Some x) xs k h in (
+              suc (f .0),
+              record {
+                at-place = omega (arith, f .1 .at-place);
+                inside = omega (arith, f .1 .inside);
+                outside = one-on j before x xs (f .0) false (f .1 .outside);
+                within = earlier j before x xs (f .0) good (f .1 .within);
+              },
+            )
+        | inr bad ↦
+            let h : Some j ≡ Some k = sym (cond-false (admits j before x) _ _ bad) ∙ e in
+            let same : j ≡ k = cc in
+            (0, record { at-place = omega arith; inside = omega arith; outside = rw n bad; within = λ m l. absurd (omega arith) })
+      ]
+    where
+      earlier : (j : ℕ) (before : Option X) (x : X) (xs : List X) (i : ℕ) → admits j before x ≡ true → ((m : ℕ) → m < i → admits (suc j + m) (before-at (Some x) xs m d) (getD xs m d) ≡ true) → (m : ℕ) → m < suc i → admits (j + m) (before-at before (x ∷ xs) m d) (getD (x ∷ xs) m d) ≡ true
+      earlier j before x xs i good h zero l = let n : j + 0 ≡ j = omega arith in rw n good
+      earlier j before x xs i good h (suc m) l = one-on j before x xs m true (h m (omega arith))
+
+from-start : {X : Type 0} (admits : ℕ → Option X → X → Bool) (xs : List X) (i : ℕ) (d : X) (b : Bool) → admits (0 + i) (before-at None xs i d) (getD xs i d) ≡ b → admitted-at admits xs i d ≡ b
+from-start admits xs i d b e = let n : 0 + i ≡ i = omega arith in rw n at e
+
+-- what the search tells
+pub tells-first : {X : Type 0} (admits : ℕ → Option X → X → Bool) (xs : List X) (r : Option ℕ) → r ≡ first-outside admits xs → Tells-first-outside admits xs r
+tells-first admits xs None e = λ k d l. from-start admits xs k d true (admitted-from-none admits d 0 None xs (sym e) k l)
+tells-first admits xs (Some k) e = record {
+  inside = omega (arith, found-inside admits 0 None xs k (sym e));
+  outside = λ d. let f = found-at admits d 0 None xs k (sym e) in let n : f .0 ≡ k = omega (arith, f .1 .at-place) in from-start admits xs k d false (rw n at (f .1 .outside));
+  within = λ m d l. let f = found-at admits d 0 None xs k (sym e) in from-start admits xs m d true (f .1 .within m (omega (arith, f .1 .at-place)));
+}

@@ -12,9 +12,9 @@ use Rattle.std.specs.Options.{mapped, isSome}
 use Rattle.std.specs.declared.option.Option.{Option}
 use Rattle.std.specs.declared.option.Option.the-variants.{Some, None}
 use Rattle.std.proofs.shelf.Tests.{and-parts, or-cases, leb-true, eqb-true, ltb-false, not-true, eqb-false}
-use Rattle.problem.specs.Search.{first-outside}
+use Rattle.problem.specs.Search.{first-outside, before-at}
 use Rattle.refusals.specs.declared.Refusal.the-variants.{Rays, Starts, Entry, Reading}
-use Rattle.problem.proofs.Searching.{admitted-from-none, before-at, first-none}
+use Rattle.problem.proofs.Searching.{admitted-from-none, first-none}
 use Rattle.scans.specs.Choosing.{first-some}
 use Rattle.scans.specs.Loading.{start-of, ray-count, ray-entries, start-follows, start-within, entry-within, reading-within, starts-fault, ray-fault, entries-fault, readings-fault, load-fault}
 use Rattle.scans.proofs.Firsts.{both-none, mapped-none, none-before, none-from-unset}

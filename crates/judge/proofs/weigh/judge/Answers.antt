@@ -10,7 +10,7 @@ objective-requires g c κs = (
   omega (arith, c .if-pixels .left, c .if-image-pixels .left, c .pixels .ensures),
   (
     omega (arith, c .if-image-pixels .left, c .pixels-pixels .ensures),
-    dense-from-none (c .args .settings .now) (c .args .image .now) (sym (c .in-rest .ensures tt)),
+    dense-from-none (c .args .settings .now) (c .args .image .now) (sym (c .in-rest .ensures tt .value)),
   ),
 )
 
@@ -22,7 +22,7 @@ bound-requires g c κs =
     record {
       pixels = omega (arith, c .if-pixels .left, c .pixels-pixels .ensures, c .pixels .ensures);
       rays = omega (arith, c .if-ray-numbers-rays .left, c .rays .ensures);
-      admitted = sized-from-none (number-within e) (λ _. e) (c .args .ray-numbers .now) (λ _ _ _. refl) (m .end) (λ i. omega (arith, c .end-end .ensures)) (sym (c .in-rest-first-outside .ensures tt));
+      admitted = sized-from-none (number-within e) (λ _. e) (c .args .ray-numbers .now) (λ _ _ _. refl) (m .end) (λ i. omega (arith, c .end-end .ensures)) (sym (c .in-rest-first-outside .ensures tt .value));
       same = omega (arith, c .if-slopes-pixels .left, c .pixels-pixels .ensures);
-      sized = sized-from-none (slope-within s) (slope-limit s) (c .args .slopes .now) (λ _ _ _. refl) 1048576 (slope-limit-low s) (sym (c .in-rest-first-outside-2 .ensures tt));
+      sized = sized-from-none (slope-within s) (slope-limit s) (c .args .slopes .now) (λ _ _ _. refl) 1048576 (slope-limit-low s) (sym (c .in-rest-first-outside-2 .ensures tt .value));
     }

@@ -35,18 +35,18 @@ pub add-result : need.add-result
 add-result c =
     let at = c .loop-ray .ray in
     let low = start-low _ _ _ (c .pre .1) at (omega arith) in
-    let inside = found-inside _ 0 None (ray-entries (c .args .starts .now) (c .args .entries .now) at) (c .in-Some .k) (sym (c .in-Some .ensures tt)) in
+    let inside = found-inside _ 0 None (ray-entries (c .args .starts .now) (c .args .entries .now) at) (c .in-Some .k) (sym (c .in-Some .ensures tt .value)) in
     omega (arith, count-is (c .args .starts .now) (c .args .entries .now) at (starts-end _ _ _ (c .pre .1) (at + 1) (omega arith)), count-low _ _ _ (c .pre .1) at (c .loop-ray-test .taken))
 
 pub returns-in-Some : need.returns-in-Some
 unfolding entries-fault ray-fault
 returns-in-Some c =
-    sym (first-some-found (ray-fault (c .args .pixels) (c .args .starts .now) (c .args .entries .now)) (c .loop-ray .ray) _ (c .args .rays) (c .loop-ray .inv) (ap (mapped (λ k. start-of (c .args .starts .now) (c .loop-ray .ray) + k)) (sym (c .in-Some .ensures tt))) (c .loop-ray-test .taken))
+    sym (first-some-found (ray-fault (c .args .pixels) (c .args .starts .now) (c .args .entries .now)) (c .loop-ray .ray) _ (c .args .rays) (c .loop-ray .inv) (ap (mapped (λ k. start-of (c .args .starts .now) (c .loop-ray .ray) + k)) (sym (c .in-Some .ensures tt .value))) (c .loop-ray-test .taken))
 
 pub loop-ray-again : need.loop-ray-again
 unfolding ray-fault
 loop-ray-again c =
-    first-some-more (ray-fault (c .args .pixels) (c .args .starts .now) (c .args .entries .now)) (c .loop-ray .ray) (c .loop-ray .inv) (ap (mapped (λ k. start-of (c .args .starts .now) (c .loop-ray .ray) + k)) (sym (c .in-rest .ensures tt)))
+    first-some-more (ray-fault (c .args .pixels) (c .args .starts .now) (c .args .entries .now)) (c .loop-ray .ray) (c .loop-ray .inv) (ap (mapped (λ k. start-of (c .args .starts .now) (c .loop-ray .ray) + k)) (sym (c .in-rest .ensures tt .value)))
 
 pub returns : need.returns
 unfolding entries-fault

@@ -3,4 +3,4 @@ use Rattle.scans.proofs.faults.first_bad_reading.Needs as need
 
 pub returns : need.returns
 unfolding readings-fault
-returns c = c .first-outside .ensures
+returns c = c .first-outside .ensures .value
