@@ -28,7 +28,7 @@ Admitted m p = natAbs p ≤ m .end
 abbrev pub Reached : ℤ → Type 0
 Reached r = natAbs r ≤ widest
 
--- twice a whole number that is not negative, and at most 2^44
+-- from 0 to 2^44
 abbrev pub Modest : ℤ → Type 0
 Modest x = (pos 0 ≤ℤ x) × (x ≤ℤ pos (2 ^ 44))
 

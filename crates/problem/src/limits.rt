@@ -22,7 +22,8 @@ pub fn first_outside<T: Copy, L: Limits<T>>(items: &[T], limits: &L) -> Option<u
 
 // The walk from the front.
 fn first_from_front<T: Copy, L: Limits<T>>(items: &[T], limits: &L) -> Option<usize>
-    ensures { λ r. ⌜ r ≡ first-outside (L·Limits .within (now (limits .entry))) (now (items .entry)) ⌝ }
+    ensures value { λ r. ⌜ r ≡ first-outside (L·Limits .within (now (limits .entry))) (now (items .entry)) ⌝ }
+    ensures first { λ r. ⌜ Tells-first-outside (L·Limits .within (now (limits .entry))) (now (items .entry)) r ⌝ }
 {
     let mut before = None;
     for (place, item) in items.iter().enumerate() {

@@ -43,6 +43,7 @@ pub impl Limits<(usize, u32)> for EntryLimits as EntriesWithin {
     }
 }
 
+// Readings: at most 4,194,303.
 #[derive(Clone, Copy)]
 pub struct ReadingLimits;
 
