@@ -48,8 +48,13 @@ fn show_two(rt: &LibcRuntime, two: &Slice, absolute: &Absolute) -> io::Result<()
 fn show_refused(rt: &LibcRuntime, two: &mut Slice, six: &Slice) -> io::Result<()> {
     println!(rt, " what does not fit")?;
     refuse_two(rt, two)?;
-    let name = "settings of another slice";
-    tell(rt, &six.settings, &two.scan, &Square, nothing(name))?;
+    let other = Proposal {
+        name: "settings of another slice",
+        image: &[],
+        ray_numbers: &[],
+        slopes: &[],
+    };
+    tell(rt, &six.settings, &two.scan, &Square, other)?;
     let answer = two.scan
         .load(rt.alloc(), &[0, 1, 2], &[(0, 1), (2, 1)], &[4, 8]);
     tell_refusal(rt, "a table with an entry past the slice", answer)
@@ -64,16 +69,6 @@ fn show_six(rt: &LibcRuntime, six: &Slice, absolute: &Absolute) -> io::Result<()
     judge_six(rt, six, &Square)?;
     println!(rt, " by its absolute value, slope 3")?;
     judge_six(rt, six, absolute)
-}
-
-// A proposal of three empty lists.
-fn nothing(name: &str) -> Proposal<'_> {
-    Proposal {
-        name,
-        image: &[],
-        ray_numbers: &[],
-        slopes: &[],
-    }
 }
 
 fn judge_two<M: Misfit>(rt: &LibcRuntime, slice: &Slice, misfit: &M) -> io::Result<()> {
