@@ -2,7 +2,7 @@
 use Rattle.std.specs.Prelude.{ℕ, List, [], ◌∷◌}
 use Rattle.std.proofs.Common.{lit≤}
 use Rattle.problem.specs.Scans.{Ray, ScanMeaning}
-use Rattle.duality.specs.Objective.{Problem, posed}
+use Rattle.problem.specs.Objective.{Problem, posed}
 use Rattle.problem.specs.declared.settings.Settings.{Settings}
 use Rattle.misfits.specs.Meanings.{square, absolute}
 

@@ -1,15 +1,15 @@
 -- The worked examples, as one statement about the definitions. Assumes nothing.
 use Rattle.std.specs.Prelude.{◌≡◌, ℕ, ◌*◌, List, [], ◌∷◌, ℤ, pos, negsuc, ◌*ℤ◌, ◌≤ℤ◌, Ok, Err, Result}
 use Rattle.refusals.specs.Telling.{number_of}
-use Rattle.duality.specs.Objective.{objective_at, objective}
-use Rattle.duality.specs.Bound.{bound}
-use Rattle.duality.specs.Fitting.{ImageFits, proposed}
-use Rattle.duality.specs.Lagrangian.{lagrangian_at, lagrangian}
-use Rattle.duality.specs.Saddle.{answering_numbers, answering_slopes, answering_image, NoImageBelow}
+use Rattle.problem.specs.Objective.{objective_at, objective}
+use Rattle.problem.specs.Bound.{bound}
+use Rattle.problem.specs.Fitting.{ImageFits, proposed}
+use Rattle.problem.specs.Lagrangian.{lagrangian_at, lagrangian}
+use Rattle.problem.specs.Saddle.{answering_numbers, answering_slopes, answering_image, NoImageBelow}
 use Rattle.refusals.specs.declared.Refusal.{Refusal}
 use Rattle.refusals.specs.declared.Refusal.TheVariants.{Pixel, RayNumber, Slope}
-use Rattle.verdicts.specs.Judging.{judged}
-use Rattle.verdicts.specs.declared.verdict.Verdict.{Verdict}
+use Rattle.judge.specs.Judging.{judged}
+use Rattle.judge.specs.declared.verdict.Verdict.{Verdict}
 use Rattle.examples.specs.Slices.{two_settings, two_square, two_absolute, six_settings, six_square, six_absolute}
 
 abbrev told : ℤ → ℤ → Result Verdict Refusal
@@ -117,14 +117,7 @@ SaddleOfSix =
     × (answering_slopes six_settings six_image ≡ pos 6 ∷ pos 6 ∷ negsuc 5 ∷ negsuc 5 ∷ pos 0 ∷ pos 6 ∷ negsuc 5 ∷ pos 0 ∷ pos 6 ∷ pos 0 ∷ pos 0 ∷ pos 0 ∷ [])
 
 abbrev pub WorkedExamples : Type 0
-WorkedExamples =
-    BestOfTwo
-    × ReadingsOfTwo
-    × FlatOfTwo
-    × AbsoluteOfTwo
-    × RefusedOfTwo
-    × AdmittedOfTwo
-    × FractionOfTwo
-    × SaddleOfTwo
-    × SixPixels
-    × SaddleOfSix
+WorkedExamples = BestOfTwo × ReadingsOfTwo × FlatOfTwo × AbsoluteOfTwo × RefusedOfTwo × AdmittedOfTwo × FractionOfTwo × SixPixels
+
+abbrev pub SaddleExamples : Type 0
+SaddleExamples = SaddleOfTwo × SaddleOfSix

@@ -1,8 +1,8 @@
 ghost use Rattle.std.specs.Prelude.{◌≡◌, IfOk};
-ghost use Rattle.duality.specs.Objective.{posed};
-ghost use Rattle.duality.specs.Fitting.{proposed};
-ghost use Rattle.duality.specs.Saddle.{NoImageBetterByMore};
-ghost use Rattle.verdicts.specs.Judging.{judged};
+ghost use Rattle.problem.specs.Objective.{posed};
+ghost use Rattle.problem.specs.Fitting.{proposed};
+ghost use Rattle.problem.specs.Saddle.{NoImageBetterByMore};
+ghost use Rattle.judge.specs.Judging.{judged};
 ghost use Rattle.examples.specs.Distances.{distance_in};
 
 use judge::weigh::weigh;

@@ -5,8 +5,8 @@ use Rattle.std.proofs.lemmas.Nat.{mul-le}
 use Rattle.algebra.proofs.Integers.{lin}
 use Rattle.algebra.proofs.Words.{same_bits}
 use Rattle.problem.specs.Scans.{ScanMeaning, LawfulScan, ray_at}
-use Rattle.duality.specs.Objective.{residual, ray_cost}
-use Rattle.duality.specs.Bound.{at}
+use Rattle.problem.specs.Objective.{residual, ray_cost}
+use Rattle.problem.specs.Bound.{at}
 use Rattle.problem.proofs.Rays.{lawful_ray}
 use Rattle.problem.specs.Misfits.{MisfitMeaning, LawfulMisfit, Modest, cost_answer, conjugate_answer, widest}
 

@@ -1,3 +1,5 @@
+pub mod Fitting
+pub mod Meaning
 pub mod Places
 pub mod Sizes
 pub mod Rays

@@ -7,7 +7,7 @@ use Rattle.algebra.specs.Sums.{sum_to}
 use Rattle.algebra.proofs.Sums.{sum_to_more}
 use Rattle.algebra.proofs.Integers.{lin, abs-mul}
 use Rattle.problem.specs.Scans.{Ray, ScanMeaning, LawfulScan, no_ray, ray_at, entry_at, weight_at, ray_weight_at}
-use Rattle.duality.specs.Bound.{at, entry_pull, ray_pull, pull_of}
+use Rattle.problem.specs.Bound.{at, entry_pull, ray_pull, pull_of}
 use Rattle.judge.specs.Sizes.{Light}
 use Rattle.judge.proofs.Rays.{stands, entry_more}
 

@@ -8,7 +8,7 @@ use Rattle.algebra.specs.Sums.{sum_to}
 use Rattle.algebra.proofs.Sums.{sum_to_more}
 use Rattle.problem.specs.Scans.{ScanMeaning, LawfulScan, ray_at, entry_at, weight}
 use Rattle.problem.proofs.Rays.{lawful_ray, entry_inside as inside}
-use Rattle.duality.specs.Objective.{ray_term}
+use Rattle.problem.specs.Objective.{ray_term}
 
 -- the k-th entry of a list is e
 pub record Stands (es : List (ℕ × ℕ)) (k : ℕ) (e : ℕ × ℕ) : Type 0 where

@@ -2,8 +2,8 @@
 use Rattle.std.proofs.Common.{◌≡◌, ℕ, ◌≤◌, Bool, leb, List, ℤ, pos, nat_abs, None, Option, arith}
 use Rattle.problem.specs.Search.{first_outside}
 use Rattle.problem.specs.declared.settings.Settings.{Settings}
-use Rattle.verdicts.specs.Judging.{density_within}
-use Rattle.verdicts.proofs.Fitting.{densities_within, sizes_within}
+use Rattle.judge.specs.Judging.{density_within}
+use Rattle.judge.proofs.Fitting.{densities_within, sizes_within}
 use Rattle.algebra.proofs.Lists.{at_every_place}
 use Rattle.judge.specs.Sizes.{Dense, Sized}
 

@@ -1,6 +1,6 @@
 -- What the judge's loops add up. Assumes nothing.
 use Rattle.std.specs.Prelude.{ℕ, List, ℤ}
-use Rattle.duality.specs.Bound.{at, with_slopes, least_product}
+use Rattle.problem.specs.Bound.{at, with_slopes, least_product}
 use Rattle.problem.specs.declared.settings.Settings.{Settings}
 
 -- a pixel's term of the bound, where w holds its share of the rays

@@ -1,7 +1,7 @@
 -- How large the numbers of a fitting proposal, and what the judge makes of them, can be. Assumes nothing.
 use Rattle.std.specs.Prelude.{ℕ, ◌*◌, ◌≤◌, List, take, ℤ, sum_by, slice_index, unsigned_abs}
 use Rattle.problem.specs.Scans.{ScanMeaning, ray_weight_at}
-use Rattle.duality.specs.Bound.{at}
+use Rattle.problem.specs.Bound.{at}
 
 -- no pixel is above 1023
 abbrev pub Dense : List ℕ → Type 0

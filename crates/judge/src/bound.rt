@@ -2,8 +2,8 @@ ghost use Rattle.std.specs.Prelude.{◌≡◌, ℕ, ◌+◌, ◌*◌, ◌^◌, �
 ghost use Rattle.algebra.specs.Sums.{sum_to};
 ghost use Rattle.problem.specs.Setting.{pixel_count};
 ghost use Rattle.problem.specs.Scans.{ray_at};
-ghost use Rattle.duality.specs.Bound.{at, ray_pull, back_projection, slope_from_left, slope_from_above, with_slopes, least_product, price_of, reading_term, bound as bound_of};
-ghost use Rattle.duality.specs.Objective.{posed};
+ghost use Rattle.problem.specs.Bound.{at, ray_pull, back_projection, slope_from_left, slope_from_above, with_slopes, least_product, price_of, reading_term, bound as bound_of};
+ghost use Rattle.problem.specs.Objective.{posed};
 ghost use Rattle.judge.specs.Sizes.{Sized, Light};
 ghost use Rattle.judge.specs.Loops.{product_at};
 

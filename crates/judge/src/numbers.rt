@@ -1,5 +1,5 @@
 ghost use Rattle.std.specs.Prelude.{◌≡◌, ◌*◌, ◌^◌, ◌<◌, length, pos, ◌+ℤ◌, ◌*ℤ◌, slice_set, unsigned_abs};
-ghost use Rattle.duality.specs.Bound.{at};
+ghost use Rattle.problem.specs.Bound.{at};
 
 // A number of a list, as an i64.
 pub(crate) fn number_at(numbers: &[i32], i: usize) -> i64

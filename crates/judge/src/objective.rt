@@ -1,7 +1,7 @@
 ghost use Rattle.std.specs.Prelude.{◌≡◌, ℕ, ◌+◌, ◌*◌, ◌^◌, ◌<◌, ◌≤◌, length, pos, unsigned_abs};
 ghost use Rattle.problem.specs.Setting.{pixel_count};
 ghost use Rattle.problem.specs.Scans.{ray_at};
-ghost use Rattle.duality.specs.Objective.{ray_sum, residual as residual-of, data_cost, right_difference, down_difference, total_variation, objective as objective-of, posed};
+ghost use Rattle.problem.specs.Objective.{ray_sum, residual as residual-of, data_cost, right_difference, down_difference, total_variation, objective as objective-of, posed};
 ghost use Rattle.judge.specs.Sizes.{Dense};
 
 use problem::misfit::Misfit;

@@ -1,8 +1,8 @@
 ghost use Rattle.std.specs.Prelude.{◌≡◌, ◌+◌, ◌^◌, ◌<◌, is_ok, IfOk, Decides, unsigned_abs};
-ghost use Rattle.duality.specs.Objective.{posed};
-ghost use Rattle.duality.specs.Fitting.{Fits, proposed};
-ghost use Rattle.duality.specs.Saddle.{Weighed};
-ghost use Rattle.verdicts.specs.Judging.{judged};
+ghost use Rattle.problem.specs.Objective.{posed};
+ghost use Rattle.problem.specs.Fitting.{Fits, proposed};
+ghost use Rattle.problem.specs.Saddle.{Weighed};
+ghost use Rattle.judge.specs.Judging.{judged};
 
 use crate::bound::bound;
 use crate::objective::objective;
@@ -11,8 +11,8 @@ use problem::misfit::Misfit;
 use problem::scan::Scan;
 use problem::settings::Settings;
 use refusals::Refusal;
-use verdicts::limits::{Densities, RayNumbers, Slopes};
-use verdicts::verdict::Verdict;
+use crate::limits::{Densities, RayNumbers, Slopes};
+use crate::verdict::Verdict;
 
 // Judges an image with its ray numbers and slopes: objective and bound, or the first thing that does not fit.
 // It takes no memory from the heap, and one pass over the entries for each of the two numbers.

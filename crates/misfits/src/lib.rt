@@ -1,4 +1,6 @@
 // The two misfits of a residual: half its square, and its size times a slope.
+#![tactic(auto)]
+
 ghost use Rattle.std.specs.Prelude.{◌≡◌, ◌≤◌, ◌*ℤ◌, nat_le, unsigned_abs};
 ghost use Rattle.problem.specs.Misfits.{widest};
 ghost use Rattle.misfits.specs.Driven.{clip_at};

@@ -3,3 +3,8 @@ pub mod Search
 pub mod Scans
 pub mod Misfits
 pub mod Driving
+pub mod Objective
+pub mod Bound
+pub mod Fitting
+pub mod Lagrangian
+pub mod Saddle

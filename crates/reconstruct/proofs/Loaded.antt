@@ -5,9 +5,9 @@ use Rattle.refusals.specs.declared.Refusal.TheVariants.{OutOfMemory}
 use Rattle.problem.specs.Setting.{Holds, pixel_count}
 use Rattle.problem.specs.Scans.{ScanMeaning}
 use Rattle.problem.specs.declared.settings.Settings.{Settings}
-use Rattle.tables.specs.Choosing.{first_some, largest}
-use Rattle.tables.specs.Loading.{load_fault, starts_fault, ray_fault, entries_fault, readings_fault}
-use Rattle.tables.specs.Tables.{table_meaning, no_rays}
+use Rattle.scans.specs.Choosing.{first_some, largest}
+use Rattle.scans.specs.Loading.{load_fault, starts_fault, ray_fault, entries_fault, readings_fault}
+use Rattle.scans.specs.Tables.{table_meaning, no_rays}
 use Rattle.scans.specs.Stored.{stored_meaning}
 use Rattle.scans.specs.declared.stored.StoredScan.{StoredScan}
 use Rattle.examples.specs.Slices.{two_rays, six_rays}

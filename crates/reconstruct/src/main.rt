@@ -1,4 +1,6 @@
 // Loads two small slices, judges proposals for them, and prints what the judge tells of each.
+#![tactic(auto)]
+
 mod proposal;
 mod slices;
 
@@ -20,9 +22,6 @@ fn run(rt: &HostRuntime) -> anyhow::Result<()> {
     show_two(rt, &two, &absolute)?;
     show_refused(rt, &mut two, &six)?;
     show_six(rt, &six, &absolute)?;
-    println!(rt;
-        "A distance of D: no image within the density limits, whole or in fractions, is better by more than D."
-    )?;
     Ok(())
 }
 

@@ -1,3 +1,5 @@
+#![tactic(auto)]
+
 ghost use Rattle.std.specs.Prelude.{◌≡◌, Some};
 ghost use Rattle.refusals.specs.declared.Refusal.TheVariants.{OutOfMemory};
 ghost use Rattle.refusals.specs.Telling.{number_of, place_of, words_of, told, same};

@@ -1,2 +1,5 @@
+pub mod Choosing
+pub mod Loading
+pub mod Tables
 pub mod Stored
 pub mod Shape

@@ -1,8 +1,8 @@
 -- What a stored scan means, and where it keeps its rays. Assumes nothing.
 use Rattle.std.specs.Prelude.{◌≡◌, ℕ, ◌+◌, ◌-◌, ◌<◌, ◌≤◌, cond, length, Some, None, vec_items, vec_len, nat_lt, slice_index_or}
 use Rattle.problem.specs.Scans.{ScanMeaning, ray_at, entry_at}
-use Rattle.tables.specs.Loading.{start_of}
-use Rattle.tables.specs.Tables.{table_meaning}
+use Rattle.scans.specs.Loading.{start_of}
+use Rattle.scans.specs.Tables.{table_meaning}
 use Rattle.scans.specs.declared.stored.StoredScan.{StoredScan}
 
 abbrev pub stored_meaning : StoredScan → ScanMeaning

@@ -1,6 +1,6 @@
 ghost use Rattle.std.specs.Prelude.{◌≡◌, ◌*◌, ◌≤◌, false, length, is_some};
-ghost use Rattle.tables.specs.Loading.{load_fault};
-ghost use Rattle.tables.specs.Tables.{largest_count, largest_reading};
+ghost use Rattle.scans.specs.Loading.{load_fault};
+ghost use Rattle.scans.specs.Tables.{largest_count, largest_reading};
 
 pub mod loading;
 pub mod questions;

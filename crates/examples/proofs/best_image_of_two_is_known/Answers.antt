@@ -1,11 +1,11 @@
 use Rattle.std.proofs.Common.{◌≡◌, ℕ, ◌<◌, ◌≤◌, Bool, true, false, cond, eqb, [], ◌∷◌, pos, negsuc, refl, subst, arith}
 use Rattle.problem.specs.Scans.{LawfulRay, LawfulScan}
 use Rattle.misfits.specs.Laws.{square_lawful}
-use Rattle.duality.specs.Objective.{objective_at, data_cost, ray_cost, residual, ray_sum, ray_term, total_variation, roughness_at, right_difference, down_difference, objective}
-use Rattle.duality.specs.Bound.{bound, prices, price_of, readings_product, reading_term, density_product, density_term, least_product, adjoint, with_slopes, slope_from_left, slope_from_above, back_projection, pull_of, ray_pull, entry_pull}
-use Rattle.duality.specs.Fitting.{Fits, proposed}
-use Rattle.duality.specs.Saddle.{LawfulProblem, NoImageBelow}
-use Rattle.verdicts.proofs.Fitting.{fits_if_accepted}
+use Rattle.problem.specs.Objective.{objective_at, data_cost, ray_cost, residual, ray_sum, ray_term, total_variation, roughness_at, right_difference, down_difference, objective}
+use Rattle.problem.specs.Bound.{bound, prices, price_of, readings_product, reading_term, density_product, density_term, least_product, adjoint, with_slopes, slope_from_left, slope_from_above, back_projection, pull_of, ray_pull, entry_pull}
+use Rattle.problem.specs.Fitting.{Fits, proposed}
+use Rattle.problem.specs.Saddle.{LawfulProblem, NoImageBelow}
+use Rattle.judge.proofs.Fitting.{fits_if_accepted}
 use Rattle.examples.specs.Slices.{two_rays, two_square}
 use Rattle.examples.proofs.best_image_of_two_is_known.Goals as goal
 

@@ -1,15 +1,15 @@
 ghost use Rattle.std.specs.Prelude.{◌≡◌, ℕ, ◌+◌, ◌<◌, ◌≤◌, length, None, MatchResult};
 ghost use Rattle.std.specs.Option.{unwrap_or};
 ghost use Rattle.problem.specs.Setting.{pixel_count};
-ghost use Rattle.tables.specs.Loading.{load_fault, start_of};
-ghost use Rattle.tables.specs.Tables.{table_meaning, no_rays, largest_count, largest_reading};
+ghost use Rattle.scans.specs.Loading.{load_fault, start_of};
+ghost use Rattle.scans.specs.Tables.{table_meaning, no_rays, largest_count, largest_reading};
 ghost use Rattle.scans.specs.Stored.{stored_meaning};
 
 use super::StoredScan;
 use problem::settings::Settings;
 use refusals::Refusal;
 use std::alloc::Global;
-use tables::faults::load_fault;
+use crate::faults::load_fault;
 
 // The items in memory of their own.
 fn copied<T: Copy>(heap: Global, items: &[T]) -> Result<Vec<T>, Refusal>

@@ -4,7 +4,7 @@ use Rattle.std.proofs.lemmas.Nat.{mul-le}
 use Rattle.algebra.specs.Sums.{sum_to}
 use Rattle.algebra.proofs.Words.{same_bits, same_word}
 use Rattle.problem.specs.Scans.{ray_at}
-use Rattle.duality.specs.Bound.{at, ray_pull, entry_pull}
+use Rattle.problem.specs.Bound.{at, ray_pull, entry_pull}
 use Rattle.judge.proofs.Rays.{entry_inside, weights_low, not_missing}
 use Rattle.judge.proofs.Pulls.{Pulled, weight_low, lighter_all, entry_fits, lighter_more, pulled_more}
 use Rattle.judge.proofs.bound.add_ray.Goals as goal

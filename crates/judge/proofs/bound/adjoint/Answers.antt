@@ -3,7 +3,7 @@ use Rattle.std.proofs.lemmas.Int.{ints}
 use Rattle.algebra.proofs.Integers.{lin}
 use Rattle.algebra.proofs.Words.{same_bits, add_words, add_fits, sub_words}
 use Rattle.problem.specs.Setting.{has_left, has_above}
-use Rattle.duality.specs.Bound.{at, with_slopes, slope_from_left, slope_from_above}
+use Rattle.problem.specs.Bound.{at, with_slopes, slope_from_left, slope_from_above}
 use Rattle.problem.specs.declared.settings.Settings.{Settings}
 use Rattle.judge.specs.Sizes.{Sized}
 use Rattle.judge.proofs.bound.adjoint.Goals as goal

@@ -5,7 +5,7 @@ use Rattle.std.proofs.lemmas.Bool.{cases_lt}
 use Rattle.algebra.specs.Sums.{sum_to}
 use Rattle.algebra.proofs.Words.{same_word}
 use Rattle.problem.specs.Scans.{ray_at, ray_weight_at}
-use Rattle.duality.specs.Bound.{at, pull_of, ray_pull, back_projection}
+use Rattle.problem.specs.Bound.{at, pull_of, ray_pull, back_projection}
 use Rattle.judge.proofs.Pulls.{projected_more}
 use Rattle.judge.proofs.bound.back_project.Goals as goal
 

@@ -4,7 +4,7 @@ use Rattle.algebra.proofs.Sums.{sum_to_cong}
 use Rattle.algebra.proofs.Integers.{lin, abs-mul}
 use Rattle.algebra.proofs.Words.{same_bits, add_words, add_fits, sub_words, mul_words}
 use Rattle.problem.specs.Setting.{pixel_count}
-use Rattle.duality.specs.Bound.{bound, prices, readings_product, density_product, density_term, adjoint, with_slopes, least_product, price_of, reading_term}
+use Rattle.problem.specs.Bound.{bound, prices, readings_product, density_product, density_term, adjoint, with_slopes, least_product, price_of, reading_term}
 use Rattle.judge.specs.Loops.{product_at}
 use Rattle.judge.proofs.Places.{few_pixels}
 use Rattle.judge.proofs.bound.bound.Goals as goal

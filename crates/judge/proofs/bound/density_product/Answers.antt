@@ -3,7 +3,7 @@ use Rattle.algebra.specs.Sums.{sum_to}
 use Rattle.algebra.proofs.Sums.{Added, added}
 use Rattle.algebra.proofs.Words.{same_bits, same_word}
 use Rattle.problem.specs.Setting.{pixel_count}
-use Rattle.duality.specs.Bound.{at, with_slopes, least_product}
+use Rattle.problem.specs.Bound.{at, with_slopes, least_product}
 use Rattle.judge.proofs.Places.{few_pixels}
 use Rattle.judge.specs.Loops.{product_at}
 use Rattle.judge.proofs.bound.density_product.Goals as goal

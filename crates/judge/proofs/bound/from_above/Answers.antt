@@ -2,7 +2,7 @@ use Rattle.std.proofs.Common.{◌/◌, sym, ◌∙◌, arith}
 use Rattle.std.proofs.lemmas.Nat.{div-add-mod', mul-le}
 use Rattle.std.proofs.lemmas.Bool.{lt-ltb, le-ltb, cond-true, cond-false}
 use Rattle.algebra.proofs.Words.{same_word}
-use Rattle.duality.specs.Bound.{slope_from_above}
+use Rattle.problem.specs.Bound.{slope_from_above}
 use Rattle.judge.proofs.bound.from_above.Goals as goal
 
 -- a pixel that is not in the first row has a row above it

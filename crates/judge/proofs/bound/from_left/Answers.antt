@@ -1,7 +1,7 @@
 use Rattle.std.proofs.Common.{sym, ◌∙◌}
 use Rattle.std.proofs.lemmas.Bool.{lt-ltb, le-ltb, cond-true, cond-false}
 use Rattle.algebra.proofs.Words.{same_word}
-use Rattle.duality.specs.Bound.{slope_from_left}
+use Rattle.problem.specs.Bound.{slope_from_left}
 use Rattle.judge.proofs.bound.from_left.Goals as goal
 
 pub returns-then-j-settings-gt0 : goal.returns-then-j-settings-gt0

@@ -1,7 +1,7 @@
 use Rattle.std.proofs.Common.{◌≡◌, ◌^◌, length, ℤ, nat_abs, sym, ap, ◌∙◌, arith}
 use Rattle.algebra.specs.Sums.{sum_to}
 use Rattle.algebra.proofs.Sums.{Added, added}
-use Rattle.duality.specs.Bound.{at, price_of}
+use Rattle.problem.specs.Bound.{at, price_of}
 use Rattle.judge.proofs.Costs.{price_is, modest_size}
 use Rattle.judge.proofs.bound.prices.Goals as goal
 use Rattle.judge.proofs.bound.prices.Given as given

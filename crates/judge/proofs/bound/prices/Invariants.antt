@@ -1,6 +1,6 @@
 use Rattle.std.proofs.Common.{◌≡◌, ◌*◌, ◌^◌, ◌≤◌, nat_abs}
 use Rattle.algebra.specs.Sums.{sum_to}
-use Rattle.duality.specs.Bound.{price_of}
+use Rattle.problem.specs.Bound.{price_of}
 use Rattle.judge.proofs.bound.prices.Given as goal
 
 abbrev pub invariant-loop-ray : goal.invariant-loop-ray

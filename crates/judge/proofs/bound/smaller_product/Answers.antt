@@ -4,7 +4,7 @@ use Rattle.std.proofs.lemmas.Nat.{mul-le}
 use Rattle.std.proofs.lemmas.Int.{clamps}
 use Rattle.algebra.proofs.Integers.{lin}
 use Rattle.algebra.proofs.Words.{same_bits, same_word}
-use Rattle.duality.specs.Bound.{least_product}
+use Rattle.problem.specs.Bound.{least_product}
 use Rattle.judge.proofs.bound.smaller_product.Goals as goal
 
 low : (density : ℕ) (w : ℤ) → density ≤ 1023 → nat_abs w ≤ 2 ^ 39 + 2 ^ 22 → density * nat_abs w ≤ 1023 * (2 ^ 39 + 2 ^ 22)

@@ -1,7 +1,7 @@
 use Rattle.std.proofs.Common.{◌≡◌, ◌^◌, length, ℤ, nat_abs, sym, ap, ◌∙◌, arith}
 use Rattle.algebra.specs.Sums.{sum_to}
 use Rattle.algebra.proofs.Sums.{Added, added}
-use Rattle.duality.specs.Objective.{ray_cost, data_cost}
+use Rattle.problem.specs.Objective.{ray_cost, data_cost}
 use Rattle.judge.proofs.Costs.{ray_cost_is, ray_cost_size}
 use Rattle.judge.proofs.objective.data_cost.Goals as goal
 use Rattle.judge.proofs.objective.data_cost.Given as given

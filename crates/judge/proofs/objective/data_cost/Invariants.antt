@@ -1,6 +1,6 @@
 use Rattle.std.proofs.Common.{◌≡◌, ◌*◌, ◌^◌, ◌≤◌, nat_abs}
 use Rattle.algebra.specs.Sums.{sum_to}
-use Rattle.duality.specs.Objective.{ray_cost}
+use Rattle.problem.specs.Objective.{ray_cost}
 use Rattle.judge.proofs.objective.data_cost.Given as goal
 
 abbrev pub invariant-loop-ray : goal.invariant-loop-ray

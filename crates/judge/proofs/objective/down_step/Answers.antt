@@ -1,5 +1,5 @@
 use Rattle.std.proofs.Common.{◌+◌, ◌∙◌, arith}
-use Rattle.duality.specs.Objective.{down_difference}
+use Rattle.problem.specs.Objective.{down_difference}
 use Rattle.problem.proofs.Places.{below_in}
 use Rattle.judge.proofs.Differences.{step_there, step_past}
 use Rattle.judge.proofs.objective.down_step.Goals as goal

@@ -3,7 +3,7 @@ use borrow.Author.Differences.{fits_in}
 use Rattle.std.proofs.lemmas.Nat.{mul-le}
 use Rattle.std.proofs.lemmas.Int.{to_z_pos, to_z-of_z}
 use Rattle.algebra.proofs.Integers.{lin}
-use Rattle.duality.specs.Objective.{objective_at}
+use Rattle.problem.specs.Objective.{objective_at}
 use Rattle.algebra.proofs.Words.{same_bits}
 use Rattle.judge.proofs.objective.objective.Goals as goal
 

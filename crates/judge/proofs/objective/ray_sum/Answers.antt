@@ -1,8 +1,8 @@
 use Rattle.std.proofs.Common.{◌≡◌, ◌+◌, ◌*◌, length, get_or, pos, ◌+ℤ◌, sym, ap, ◌∙◌, arith}
 use Rattle.algebra.specs.Sums.{sum_to}
 use Rattle.problem.specs.Scans.{ray_at}
-use Rattle.duality.specs.Objective.{ray_term, ray_sum}
-use Rattle.duality.proofs.Rays.{ray_sum_low}
+use Rattle.problem.specs.Objective.{ray_term, ray_sum}
+use Rattle.problem.proofs.Exchange.{ray_sum_low}
 use Rattle.algebra.proofs.Integers.{lin}
 use Rattle.judge.proofs.Rays.{entry_inside, ray_term_more, not_missing}
 use Rattle.judge.proofs.objective.ray_sum.Goals as goal

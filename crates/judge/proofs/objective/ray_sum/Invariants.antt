@@ -1,7 +1,7 @@
 use Rattle.std.proofs.Common.{◌≡◌, pos}
 use Rattle.algebra.specs.Sums.{sum_to}
 use Rattle.problem.specs.Scans.{ray_at}
-use Rattle.duality.specs.Objective.{ray_term}
+use Rattle.problem.specs.Objective.{ray_term}
 use Rattle.judge.proofs.objective.ray_sum.Given as goal
 
 abbrev pub invariant-loop-k : goal.invariant-loop-k

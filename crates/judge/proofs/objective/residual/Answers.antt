@@ -1,10 +1,10 @@
 use Rattle.std.proofs.Common.{◌≡◌, ℕ, ◌*◌, ◌≤◌, pos, ◌-ℤ◌, nat_abs, arith, w64}
 use Rattle.std.proofs.lemmas.Int.{to_z_pos}
 use Rattle.problem.specs.Scans.{ray_at}
-use Rattle.duality.specs.Objective.{residual, ray_sum}
+use Rattle.problem.specs.Objective.{residual, ray_sum}
 use Rattle.problem.proofs.Rays.{lawful_ray}
 use Rattle.algebra.proofs.Words.{same_bits}
-use Rattle.duality.proofs.Rays.{residual_reached}
+use Rattle.problem.proofs.Exchange.{residual_reached}
 use Rattle.judge.proofs.objective.residual.Goals as goal
 
 pub returns : goal.returns

@@ -2,7 +2,7 @@ use Rattle.std.proofs.Common.{◌≡◌, ◌+◌, pos, ◌+ℤ◌, sym, ap, ◌�
 use Rattle.algebra.specs.Sums.{sum_to}
 use Rattle.algebra.proofs.Sums.{sum_to_more}
 use Rattle.problem.specs.Setting.{pixel_count}
-use Rattle.duality.specs.Objective.{roughness_at, total_variation}
+use Rattle.problem.specs.Objective.{roughness_at, total_variation}
 use Rattle.judge.proofs.Places.{few_pixels}
 use Rattle.judge.proofs.objective.total_variation.Goals as goal
 

@@ -1,6 +1,6 @@
 use Rattle.std.proofs.Common.{◌≡◌, ◌*◌, ◌≤◌, pos}
 use Rattle.algebra.specs.Sums.{sum_to}
-use Rattle.duality.specs.Objective.{roughness_at}
+use Rattle.problem.specs.Objective.{roughness_at}
 use Rattle.judge.proofs.objective.total_variation.Given as goal
 
 abbrev pub invariant-loop-j : goal.invariant-loop-j

@@ -1,7 +1,7 @@
 use Rattle.std.proofs.Common.{sym, refl, arith}
-use Rattle.duality.specs.Fitting.{slope_limit}
-use Rattle.duality.proofs.Differences.{slope_limit_low}
-use Rattle.verdicts.specs.Judging.{number_within, slope_within}
+use Rattle.problem.specs.Fitting.{slope_limit}
+use Rattle.problem.proofs.Differences.{slope_limit_low}
+use Rattle.judge.specs.Judging.{number_within, slope_within}
 use Rattle.judge.proofs.Sizes.{dense_from_none, sized_from_none}
 use Rattle.judge.proofs.weigh.judge.Goals as goal
 

@@ -1,5 +1,5 @@
-use Rattle.verdicts.proofs.Fitting.{accepted_exactly}
-use Rattle.verdicts.proofs.Meaning.{weighed_if_accepted}
+use Rattle.judge.proofs.Fitting.{accepted_exactly}
+use Rattle.judge.proofs.Meaning.{weighed_if_accepted}
 use Rattle.judge.proofs.weigh.weigh.Goals as goal
 
 pub returns : goal.returns

@@ -1,6 +1,6 @@
 use Rattle.std.proofs.Common.{sym, arith}
-use Rattle.tables.proofs.Faultless.{faultless, starts_length, starts_rise}
-use Rattle.tables.proofs.Laws.{counts_low}
+use Rattle.scans.proofs.Faultless.{faultless, starts_length, starts_rise}
+use Rattle.scans.proofs.Laws.{counts_low}
 use Rattle.scans.proofs.stored.StoredScan.load.Goals as goal
 
 pub largest-count-requires : goal.largest-count-requires

@@ -1,6 +1,6 @@
 use Rattle.std.proofs.Common.{◌*◌, ◌≤◌, mul-le-mul, arith}
-use Rattle.tables.specs.Choosing.{largest}
-use Rattle.tables.proofs.Faultless.{none_checked}
+use Rattle.scans.specs.Choosing.{largest}
+use Rattle.scans.proofs.Faultless.{none_checked}
 use Rattle.scans.proofs.stored.StoredScan.new.Goals as goal
 
 pub invariant-of-result : goal.invariant-of-result

@@ -1,6 +1,6 @@
 use Rattle.std.proofs.Common.{sym, arith}
-use Rattle.tables.specs.Loading.{ray_count}
-use Rattle.tables.proofs.Firsts.{largest_start, largest_more}
+use Rattle.scans.specs.Loading.{ray_count}
+use Rattle.scans.proofs.Firsts.{largest_start, largest_more}
 use Rattle.scans.proofs.stored.loading.largest_count.Goals as goal
 use Rattle.scans.proofs.stored.loading.largest_count.Goals.{then-count-largest, else-count-largest}
 

@@ -1,5 +1,5 @@
 use Rattle.std.proofs.Common.{◌≡◌}
-use Rattle.tables.specs.Tables.{largest_count}
+use Rattle.scans.specs.Tables.{largest_count}
 use Rattle.scans.proofs.stored.loading.largest_count.Given as goal
 
 abbrev pub invariant-loop-ray : goal.invariant-loop-ray

@@ -1,5 +1,5 @@
 use Rattle.std.proofs.Common.{get_or, sym, arith}
-use Rattle.tables.proofs.Firsts.{largest_start, largest_more}
+use Rattle.scans.proofs.Firsts.{largest_start, largest_more}
 use Rattle.scans.proofs.stored.loading.largest_reading.Goals as goal
 use Rattle.scans.proofs.stored.loading.largest_reading.Goals.{then-reading-largest, else-reading-largest}
 

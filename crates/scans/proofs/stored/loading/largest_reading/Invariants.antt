@@ -1,5 +1,5 @@
 use Rattle.std.proofs.Common.{◌≡◌, get_or}
-use Rattle.tables.specs.Choosing.{largest}
+use Rattle.scans.specs.Choosing.{largest}
 use Rattle.scans.proofs.stored.loading.largest_reading.Given as goal
 
 abbrev pub invariant-loop-reading : goal.invariant-loop-reading

@@ -1,5 +1,0 @@
-pub mod Objective
-pub mod Bound
-pub mod Fitting
-pub mod Lagrangian
-pub mod Saddle

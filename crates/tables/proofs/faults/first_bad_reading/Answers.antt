@@ -1,6 +1,0 @@
-use Rattle.tables.specs.Loading.{readings_fault}
-use Rattle.tables.proofs.faults.first_bad_reading.Goals as goal
-
-pub returns : goal.returns
-unfolding readings_fault
-returns c = c.first_outside.ensures.value

@@ -1,3 +1,0 @@
-pub mod Choosing
-pub mod Loading
-pub mod Tables

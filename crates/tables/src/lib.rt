@@ -1,3 +1,0 @@
-// Tables of rays in compressed rows: what is wrong with one, if anything.
-pub mod faults;
-mod limits;
