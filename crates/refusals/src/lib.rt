@@ -3,8 +3,7 @@
 ghost use Rattle.std.specs.Prelude.{◌≡◌, Some};
 ghost use Rattle.refusals.specs.declared.Refusal.TheVariants.{OutOfMemory};
 ghost use Rattle.refusals.specs.Telling.{number_of, place_of, words_of, told, same};
-ghost use Rattle.std.specs.Cmp.Rules.{comparing};
-ghost use Rattle.std.proofs.Common.{rules};
+ghost use Rattle.refusals.specs.Laws.{same_laws};
 
 use std::alloc::AllocError;
 use std::error::Error;
@@ -125,7 +124,7 @@ impl Error for Refusal {}
 impl PartialEq for Refusal {
     ghost eq = { λ x y. same x y };
 
-    ghost laws = { Prim.search (comparing, rules) };
+    ghost laws = { same_laws };
 
     fn eq(&self, other: &Refusal) -> bool {
         self.number() == other.number() && self.place() == other.place()
