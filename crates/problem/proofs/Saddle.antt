@@ -30,14 +30,31 @@ module _ (P : Problem) (l : LawfulProblem P) where
     reached = objective_reached P l u i;
   }
 
+-- the two parts of what fits
+module _ (P : Problem) (x : Proposal) (f : Fits P x) where
+  pub image_fits : ImageFits P.settings 1 x.image
+  image_fits = record {
+    length_is = f.image_length;
+    within = λ j h. (omega (arith, (f.image_within j h).0), omega (arith, (f.image_within j h).1));
+  }
+
+  pub duals_fit : DualsFit P x.ray_numbers x.slopes
+  duals_fit = record {
+    ray_numbers_length = f.ray_numbers_length;
+    slopes_length = f.slopes_length;
+    admitted = f.ray_numbers_within;
+    slopes_within = f.slopes_within;
+  }
+
+module _ (P : Problem) (l : LawfulProblem P) where
   -- a proposal that fits learns it of its own numbers
   pub weighed : (x : Proposal) → Fits P x → Weighed P x (objective P x.image) (bound P x.ray_numbers x.slopes)
   weighed x f = record {
-    primal = primal x.image f.image_fits;
-    dual = dual x.ray_numbers x.slopes f.duals_fit;
-    between = between x.ray_numbers x.slopes f.duals_fit;
-    none_below = none_below x.ray_numbers x.slopes f.duals_fit;
-    none_better = subst (NoImageBelow P) (sym (cancelled (objective P x.image) (bound P x.ray_numbers x.slopes))) (none_below x.ray_numbers x.slopes f.duals_fit);
+    primal = primal P l x.image (image_fits P x f);
+    dual = dual P l x.ray_numbers x.slopes (duals_fit P x f);
+    between = between P l x.ray_numbers x.slopes (duals_fit P x f);
+    none_below = none_below P l x.ray_numbers x.slopes (duals_fit P x f);
+    none_better = subst (NoImageBelow P) (sym (cancelled (objective P x.image) (bound P x.ray_numbers x.slopes))) (none_below P l x.ray_numbers x.slopes (duals_fit P x f));
   }
     where
       cancelled : (a b : ℤ) → a -ℤ (a -ℤ b) ≡ b
