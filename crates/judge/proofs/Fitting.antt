@@ -61,28 +61,24 @@ module _ (P : Problem) (x : Proposal) where
       let i = passes (first_outside (slope_within P.settings) x.slopes) Slope _ f.1 in
       record {
         pixels = eqb-true (pixel_count P.settings) P.scan.pixels a.0;
-        image_fits = record {
-          length_is = eqb-true (length x.image) (pixel_count P.settings) b.0;
-          within = λ j h. let w = densities_within P.settings x.image e.0 j h in (omega (arith, w.0), omega (arith, w.1));
-        };
-        duals_fit = record {
-          ray_numbers_length = eqb-true (length x.ray_numbers) (length P.scan.rays) c.0;
-          slopes_length = eqb-true (length x.slopes) (2 * pixel_count P.settings) d.0;
-          admitted = sizes_within (number_within P.misfit.end) (λ _. P.misfit.end) x.ray_numbers (λ _ _ _. refl) f.0;
-          slopes_within = sizes_within (slope_within P.settings) (slope_limit P.settings) x.slopes (λ _ _ _. refl) i.0;
-        };
+        image_length = eqb-true (length x.image) (pixel_count P.settings) b.0;
+        ray_numbers_length = eqb-true (length x.ray_numbers) (length P.scan.rays) c.0;
+        slopes_length = eqb-true (length x.slopes) (2 * pixel_count P.settings) d.0;
+        image_within = densities_within P.settings x.image e.0;
+        ray_numbers_within = sizes_within (number_within P.misfit.end) (λ _. P.misfit.end) x.ray_numbers (λ _ _ _. refl) f.0;
+        slopes_within = sizes_within (slope_within P.settings) (slope_limit P.settings) x.slopes (λ _ _ _. refl) i.0;
       }
 
   pub accepted_if_fits : Fits P x → judged P x ≡ Ok (verdict_of P x)
   accepted_if_fits f =
       rw (
         eq-eqb (pixel_count P.settings) P.scan.pixels f.pixels,
-        eq-eqb (length x.image) (pixel_count P.settings) f.image_fits.length_is,
-        eq-eqb (length x.ray_numbers) (length P.scan.rays) f.duals_fit.ray_numbers_length,
-        eq-eqb (length x.slopes) (2 * pixel_count P.settings) f.duals_fit.slopes_length,
-        densities_none P.settings x.image (λ j h. let w = f.image_fits.within j h in (omega (arith, w.0), omega (arith, w.1))),
-        sizes_none (number_within P.misfit.end) (λ _. P.misfit.end) x.ray_numbers (λ _ _ _. refl) f.duals_fit.admitted,
-        sizes_none (slope_within P.settings) (slope_limit P.settings) x.slopes (λ _ _ _. refl) f.duals_fit.slopes_within,
+        eq-eqb (length x.image) (pixel_count P.settings) f.image_length,
+        eq-eqb (length x.ray_numbers) (length P.scan.rays) f.ray_numbers_length,
+        eq-eqb (length x.slopes) (2 * pixel_count P.settings) f.slopes_length,
+        densities_none P.settings x.image f.image_within,
+        sizes_none (number_within P.misfit.end) (λ _. P.misfit.end) x.ray_numbers (λ _ _ _. refl) f.ray_numbers_within,
+        sizes_none (slope_within P.settings) (slope_limit P.settings) x.slopes (λ _ _ _. refl) f.slopes_within,
       )
 
   pub accepted_exactly : (r : Result Verdict Refusal) → r ≡ judged P x → Decides (is_ok r) (Fits P x)

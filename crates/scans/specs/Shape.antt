@@ -10,8 +10,8 @@ use Rattle.std.proofs.lemmas.Option.{slice_get-get_or, slice_get_past}
 use Rattle.problem.specs.Scans.{Ray, LawfulScan, no_ray, ray_at, entry_at}
 use Rattle.scans.specs.Loading.{start_of}
 use Rattle.scans.specs.Tables.{table_ray}
-use Rattle.scans.proofs.Faultless.{Faultless, faultless_since, starts_length, starts_rise, starts_end, count_is}
-use Rattle.scans.proofs.Laws.{table_lawful}
+use Rattle.scans.specs.Faultless.{Faultless, faultless_since, starts_length, starts_rise, starts_end, count_is}
+use Rattle.scans.specs.Laws.{table_lawful}
 use Rattle.scans.specs.Stored.{stored_meaning, stored_span, table_entry, Spans, Counts}
 use Rattle.scans.specs.declared.stored.StoredScan.{StoredScan}
 

@@ -5,6 +5,6 @@ use Rattle.examples.proofs.distance.distance_told.Goals as goal
 
 pub returns : goal.returns
 returns g c =
-    let said = c.in-ok-verdict.ensures in
-    let gap = same_word c.gap.result c.gap.type-inv ∙ c.gap.ensures.exact said.room in
+    let said = c.in_ok-verdict.ensures in
+    let gap = same_word c.gap.result c.gap.type_inv ∙ c.gap.ensures.exact said.room in
     rw gap (record { value = ap distance_in said.value; promised = said.weighed.none_better })

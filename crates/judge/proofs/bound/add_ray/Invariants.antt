@@ -5,4 +5,4 @@ use Rattle.judge.proofs.bound.add_ray.Given as goal
 abbrev pub invariant-loop-k : goal.invariant-loop-k
 invariant-loop-k g l =
     let s = g.S.Scan.meaning l.scan in
-    Pulled l.ray-number (ray_at s l.ray) l.k l.initial.w l.w × Lighter s l.ray l.k l.w
+    Pulled l.ray_number (ray_at s l.ray) l.k l.initial.w l.w × Lighter s l.ray l.k l.w

@@ -21,10 +21,10 @@ above_low : (g : Settings) (q : List ℤ) (j : ℕ) → Sized 1048576 q → nat_
 unfolding slope_from_above
 above_low g q j h = maybe_low (has_above g j) (at q (2 * (j - g.columns) + 1)) (h (2 * (j - g.columns) + 1))
 
-pub overflow-sub-result-2 : goal.overflow-sub-result-2
-overflow-sub-result-2 c =
-    let a : nat_abs c.number-at.result ≤ 1048576 = rw c.number-at.ensures (c.requires.sized (2 * c.args.j)) in
-    let b : nat_abs c.number-at-2.result ≤ 1048576 = rw c.number-at-2.ensures (c.requires.sized (2 * c.args.j + 1)) in
+pub overflow_sub-result-2 : goal.overflow_sub-result-2
+overflow_sub-result-2 c =
+    let a : nat_abs c.number_at.result ≤ 1048576 = rw c.number_at.ensures (c.requires.sized (2 * c.args.j)) in
+    let b : nat_abs c.number_at-2.result ≤ 1048576 = rw c.number_at-2.ensures (c.requires.sized (2 * c.args.j + 1)) in
     omega (arith, ints, c.requires.small)
 
 -- the sums on the way to the last one, each known and small
@@ -50,36 +50,36 @@ module _ (x a b l u : ℤ) (hx : nat_abs x ≤ 2 ^ 39) (ha : nat_abs a ≤ 10485
   whole_is : to_z w64 (of_z w64 (to_z w64 (of_z w64 (to_z w64 (of_z w64 (to_z w64 (of_z w64 (to_z w64 (of_z w64 x) -ℤ to_z w64 (of_z w64 a))) -ℤ to_z w64 (of_z w64 b))) +ℤ to_z w64 (of_z w64 l))) +ℤ to_z w64 (of_z w64 u))) ≡ x -ℤ a -ℤ b +ℤ l +ℤ u
   whole_is = add_words _ _ (x -ℤ a -ℤ b +ℤ l) u with_left (same_bits u (omega arith)) (omega (arith, whole_low))
 
-pub overflow-add-result : goal.overflow-add-result
-overflow-add-result c =
-    left_fits c.args.pulled c.number-at.result c.number-at-2.result c.from-left.result (pos 0) c.requires.small
-    (rw c.number-at.ensures (c.requires.sized (2 * c.args.j)))
-    (rw c.number-at-2.ensures (c.requires.sized (2 * c.args.j + 1)))
-    (rw c.from-left.ensures (left_low c.args.settings.now c.args.slopes.now c.args.j c.requires.sized))
+pub overflow_add-result : goal.overflow_add-result
+overflow_add-result c =
+    left_fits c.args.pulled c.number_at.result c.number_at-2.result c.from_left.result (pos 0) c.requires.small
+    (rw c.number_at.ensures (c.requires.sized (2 * c.args.j)))
+    (rw c.number_at-2.ensures (c.requires.sized (2 * c.args.j + 1)))
+    (rw c.from_left.ensures (left_low c.args.settings.now c.args.slopes.now c.args.j c.requires.sized))
     (omega arith)
 
-pub overflow-add-result-2 : goal.overflow-add-result-2
-overflow-add-result-2 c =
-    whole_fits c.args.pulled c.number-at.result c.number-at-2.result c.from-left.result c.from-above.result c.requires.small
-    (rw c.number-at.ensures (c.requires.sized (2 * c.args.j)))
-    (rw c.number-at-2.ensures (c.requires.sized (2 * c.args.j + 1)))
-    (rw c.from-left.ensures (left_low c.args.settings.now c.args.slopes.now c.args.j c.requires.sized))
-    (rw c.from-above.ensures (above_low c.args.settings.now c.args.slopes.now c.args.j c.requires.sized))
+pub overflow_add-result-2 : goal.overflow_add-result-2
+overflow_add-result-2 c =
+    whole_fits c.args.pulled c.number_at.result c.number_at-2.result c.from_left.result c.from_above.result c.requires.small
+    (rw c.number_at.ensures (c.requires.sized (2 * c.args.j)))
+    (rw c.number_at-2.ensures (c.requires.sized (2 * c.args.j + 1)))
+    (rw c.from_left.ensures (left_low c.args.settings.now c.args.slopes.now c.args.j c.requires.sized))
+    (rw c.from_above.ensures (above_low c.args.settings.now c.args.slopes.now c.args.j c.requires.sized))
 
 pub returns : goal.returns
 unfolding with_slopes
 returns c =
     let x : ℤ = c.args.pulled in
-    let a : ℤ = c.number-at.result in
-    let b : ℤ = c.number-at-2.result in
-    let l : ℤ = c.from-left.result in
-    let u : ℤ = c.from-above.result in
-    let ha : nat_abs a ≤ 1048576 = rw c.number-at.ensures (c.requires.sized (2 * c.args.j)) in
-    let hb : nat_abs b ≤ 1048576 = rw c.number-at-2.ensures (c.requires.sized (2 * c.args.j + 1)) in
-    let hl : nat_abs l ≤ 1048576 = rw c.from-left.ensures (left_low c.args.settings.now c.args.slopes.now c.args.j c.requires.sized) in
-    let hu : nat_abs u ≤ 1048576 = rw c.from-above.ensures (above_low c.args.settings.now c.args.slopes.now c.args.j c.requires.sized) in
+    let a : ℤ = c.number_at.result in
+    let b : ℤ = c.number_at-2.result in
+    let l : ℤ = c.from_left.result in
+    let u : ℤ = c.from_above.result in
+    let ha : nat_abs a ≤ 1048576 = rw c.number_at.ensures (c.requires.sized (2 * c.args.j)) in
+    let hb : nat_abs b ≤ 1048576 = rw c.number_at-2.ensures (c.requires.sized (2 * c.args.j + 1)) in
+    let hl : nat_abs l ≤ 1048576 = rw c.from_left.ensures (left_low c.args.settings.now c.args.slopes.now c.args.j c.requires.sized) in
+    let hu : nat_abs u ≤ 1048576 = rw c.from_above.ensures (above_low c.args.settings.now c.args.slopes.now c.args.j c.requires.sized) in
     let e = whole_is x a b l u c.requires.small ha hb hl hu in
     record {
-      value = e ∙ rw (c.number-at.ensures, c.number-at-2.ensures, c.from-left.ensures, c.from-above.ensures);
+      value = e ∙ rw (c.number_at.ensures, c.number_at-2.ensures, c.from_left.ensures, c.from_above.ensures);
       size = rw e (whole_low x a b l u c.requires.small ha hb hl hu);
     }

@@ -23,12 +23,12 @@ loop-ray-init g c =
     let zero = cleared c.fill.new.self (length c.args.w.now) (c.fill.ensures.after (λ y e. e)) in
     (λ j h. zero j, λ j. omega (arith, ap nat_abs (zero j)))
 
-pub add-ray-requires : goal.add-ray-requires
-add-ray-requires g c =
+pub add_ray-requires : goal.add_ray-requires
+add_ray-requires g c =
     record {
       room = omega (arith, c.requires.room, c.loop-ray.auto.w);
       there = omega (arith, c.loop-ray-test.true, c.requires.same);
-      sized = rw (same_word c.number-at.result c.number-at.type-inv, c.number-at.ensures) (c.requires.sized c.loop-ray.ray);
+      sized = rw (same_word c.number_at.result c.number_at.type_inv, c.number_at.ensures) (c.requires.sized c.loop-ray.ray);
       light = c.loop-ray.invariant.1;
     }
 
@@ -37,10 +37,10 @@ loop-ray-preserved g c =
     let s = g.S.Scan.meaning c.args.scan.now in
     let p = c.args.ray_numbers.now in
     let i = c.loop-ray.ray in
-    let e : to_z w64 (of_z w64 c.number-at.result) ≡ at p i = same_word c.number-at.result c.number-at.type-inv ∙ c.number-at.ensures in
-    let step : (j : ℕ) → j < length c.loop-ray.w → at c.add-ray.new.w j ≡ at c.loop-ray.w j +ℤ ray_pull j (at p i) (ray_at s i) =
-    λ j h. c.add-ray.ensures.value j h ∙ ap (λ x. at c.loop-ray.w j +ℤ ray_pull j x (ray_at s i)) e in
-    (projected_more s p i c.loop-ray.w c.add-ray.new.w c.add-ray.auto.w c.loop-ray.invariant.0 step, c.add-ray.ensures.light)
+    let e : to_z w64 (of_z w64 c.number_at.result) ≡ at p i = same_word c.number_at.result c.number_at.type_inv ∙ c.number_at.ensures in
+    let step : (j : ℕ) → j < length c.loop-ray.w → at c.add_ray.new.w j ≡ at c.loop-ray.w j +ℤ ray_pull j (at p i) (ray_at s i) =
+    λ j h. c.add_ray.ensures.value j h ∙ ap (λ x. at c.loop-ray.w j +ℤ ray_pull j x (ray_at s i)) e in
+    (projected_more s p i c.loop-ray.w c.add_ray.new.w c.add_ray.auto.w c.loop-ray.invariant.0 step, c.add_ray.ensures.light)
 
 pub returns : goal.returns
 unfolding back_projection

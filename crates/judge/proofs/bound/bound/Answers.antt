@@ -9,8 +9,8 @@ use Rattle.judge.specs.Loops.{product_at}
 use Rattle.judge.proofs.Places.{few_pixels}
 use Rattle.judge.proofs.bound.bound.Goals as goal
 
-pub back-project-requires : goal.back-project-requires
-back-project-requires g c =
+pub back_project-requires : goal.back_project-requires
+back_project-requires g c =
     let l = g.met.S.Scan.lawful c.args.scan.now in
     let m = g.met.M.Misfit.lawful c.args.misfit.now in
     record { room = l.few_pixels; same = c.requires.rays; sized = λ i. omega (arith, c.requires.admitted i, m.end_low) }
@@ -36,9 +36,9 @@ module _ (a b d : ℤ) (ha : nat_abs a ≤ 2 ^ 56) (hb : nat_abs b ≤ 2 ^ 56) (
   whole_is : to_z w64 (of_z w64 (to_z w64 (of_z w64 (to_z w64 (of_z w64 (pos 0 -ℤ to_z w64 (of_z w64 a))) -ℤ to_z w64 (of_z w64 (pos 2 *ℤ to_z w64 (of_z w64 b))))) +ℤ to_z w64 (of_z w64 (pos 2 *ℤ to_z w64 (of_z w64 d))))) ≡ pos 0 -ℤ a -ℤ pos 2 *ℤ b +ℤ pos 2 *ℤ d
   whole_is = add_words _ _ (pos 0 -ℤ a -ℤ pos 2 *ℤ b) (pos 2 *ℤ d) first_two doubled (omega (arith, whole_low))
 
-pub overflow-add-result : goal.overflow-add-result
-overflow-add-result g c =
-    whole_fits c.prices-price.result c.readings-product-readings.result c.density-product-densities.result c.prices-price.ensures.size c.readings-product-readings.ensures.size c.density-product-densities.ensures.size
+pub overflow_add-result : goal.overflow_add-result
+overflow_add-result g c =
+    whole_fits c.prices-price.result c.readings_product-readings.result c.density_product-densities.result c.prices-price.ensures.size c.readings_product-readings.ensures.size c.density_product-densities.ensures.size
 
 pub returns : goal.returns
 unfolding bound prices readings_product density_product density_term adjoint product_at
@@ -48,15 +48,15 @@ returns g c =
     let h = c.args.settings.now in
     let p = c.args.ray_numbers.now in
     let q = c.args.slopes.now in
-    let w = c.back-project.new.w in
+    let w = c.back_project.new.w in
     let a : ℤ = c.prices-price.result in
-    let b : ℤ = c.readings-product-readings.result in
-    let d : ℤ = c.density-product-densities.result in
-    let e = whole_is a b d c.prices-price.ensures.size c.readings-product-readings.ensures.size c.density-product-densities.ensures.size in
+    let b : ℤ = c.readings_product-readings.result in
+    let d : ℤ = c.density_product-densities.result in
+    let e = whole_is a b d c.prices-price.ensures.size c.readings_product-readings.ensures.size c.density_product-densities.ensures.size in
     let ea : a ≡ prices m s p = c.prices-price.ensures.value ∙ ap (λ n. sum_to n (price_of m p)) c.requires.rays in
-    let eb : b ≡ readings_product s p = c.readings-product-readings.ensures.value ∙ ap (λ n. sum_to n (reading_term s p)) c.requires.rays in
-    let ed : d ≡ density_product h s p q = c.density-product-densities.ensures.value ∙ sum_to_cong (pixel_count h) (product_at h q w) (density_term h s p q) (λ j lt. ap (λ x. least_product h (with_slopes h q j x)) (c.back-project.ensures.value j (omega (arith, few_pixels h)))) in
+    let eb : b ≡ readings_product s p = c.readings_product-readings.ensures.value ∙ ap (λ n. sum_to n (reading_term s p)) c.requires.rays in
+    let ed : d ≡ density_product h s p q = c.density_product-densities.ensures.value ∙ sum_to_cong (pixel_count h) (product_at h q w) (density_term h s p q) (λ j lt. ap (λ x. least_product h (with_slopes h q j x)) (c.back_project.ensures.value j (omega (arith, few_pixels h)))) in
     record {
       value = e ∙ rw (ea, eb, ed) (omega (arith, lin));
-      size = rw e (whole_low a b d c.prices-price.ensures.size c.readings-product-readings.ensures.size c.density-product-densities.ensures.size);
+      size = rw e (whole_low a b d c.prices-price.ensures.size c.readings_product-readings.ensures.size c.density_product-densities.ensures.size);
     }

@@ -7,7 +7,7 @@ use Rattle.judge.proofs.bound.from_left.Goals as goal
 pub returns-then-j-settings-gt0 : goal.returns-then-j-settings-gt0
 unfolding slope_from_left
 returns-then-j-settings-gt0 c =
-    same_word _ c.number-at.type-inv ∙ c.number-at.ensures ∙ sym (cond-true _ _ _ (lt-ltb _ _ c.if-j-settings-gt0.true))
+    same_word _ c.number_at.type_inv ∙ c.number_at.ensures ∙ sym (cond-true _ _ _ (lt-ltb _ _ c.if-j-settings-gt0.true))
 
 pub returns-else-j-settings-gt0 : goal.returns-else-j-settings-gt0
 unfolding slope_from_left

@@ -15,13 +15,13 @@ turn g c =
     let p = c.args.ray_numbers.now in
     let i = c.loop-ray.ray in
     let k : ℤ = c.conjugate-total.result in
-    let e : k ≡ m.conjugate (at p i) = price_is m l p i c.number-at.result k c.number-at.ensures (c.requires.admitted i) c.conjugate-total.ensures in
+    let e : k ≡ m.conjugate (at p i) = price_is m l p i c.number_at.result k c.number_at.ensures (c.requires.admitted i) c.conjugate-total.ensures in
     added (price_of m p) i (2 ^ 44) c.loop-ray.total k (sym c.loop-ray.total-is ∙ c.loop-ray.invariant.0) (omega (arith, ap nat_abs c.loop-ray.total-is, c.loop-ray.invariant.1))
     e (rw e (modest_size (m.conjugate (at p i)) (l.conjugate_modest (at p i) (c.requires.admitted i))))
     (omega (arith, c.loop-ray-test.true, c.requires.few))
 
-pub overflow-add-total : goal.overflow-add-total
-overflow-add-total g c = rw c.loop-ray.total-is (turn g c).ranges
+pub overflow_add-total : goal.overflow_add-total
+overflow_add-total g c = rw c.loop-ray.total-is (turn g c).fits
 
 pub loop-ray-preserved : goal.loop-ray-preserved
 loop-ray-preserved g c = rw c.loop-ray.total-is ((turn g c).value, (turn g c).size)

@@ -11,9 +11,9 @@ use Rattle.judge.proofs.bound.readings_product.Given as given
 pub scaled-total-requires : goal.scaled-total-requires
 scaled-total-requires g c =
     let i = c.loop-ray.ray in
-    let x : ℤ = c.number-at.result in
-    let low = reading_low _ (g.met.S.Scan.lawful c.args.scan.now) i c.reading.result x c.reading.ensures (rw c.number-at.ensures (c.requires.sized i)) in
-    rw (same_word x c.number-at.type-inv) (omega (arith, low))
+    let x : ℤ = c.number_at.result in
+    let low = reading_low _ (g.met.S.Scan.lawful c.args.scan.now) i c.reading.result x c.reading.ensures (rw c.number_at.ensures (c.requires.sized i)) in
+    rw (same_word x c.number_at.type_inv) (omega (arith, low))
 
 -- one ray more
 turn : (g : given.Over) (c : goal.After-scaled-total g) → Added (reading_term (g.S.Scan.meaning c.args.scan.now) c.args.ray_numbers.now) c.loop-ray.ray (2 ^ 44) c.loop-ray.total c.scaled-total.result
@@ -22,18 +22,18 @@ turn g c =
     let s = g.S.Scan.meaning c.args.scan.now in
     let p = c.args.ray_numbers.now in
     let i = c.loop-ray.ray in
-    let x : ℤ = c.number-at.result in
-    let low = reading_low s (g.met.S.Scan.lawful c.args.scan.now) i c.reading.result x c.reading.ensures (rw c.number-at.ensures (c.requires.sized i)) in
-    let same = same_word x c.number-at.type-inv in
+    let x : ℤ = c.number_at.result in
+    let low = reading_low s (g.met.S.Scan.lawful c.args.scan.now) i c.reading.result x c.reading.ensures (rw c.number_at.ensures (c.requires.sized i)) in
+    let same = same_word x c.number_at.type_inv in
     let value : c.scaled-total.result ≡ pos c.reading.result *ℤ x = rw same at c.scaled-total.ensures.value in
     let size : nat_abs c.scaled-total.result ≡ c.reading.result * nat_abs x = rw same at c.scaled-total.ensures.size in
     added (reading_term s p) i (2 ^ 44) c.loop-ray.total c.scaled-total.result (sym c.loop-ray.total-is ∙ c.loop-ray.invariant.0) (omega (arith, ap nat_abs c.loop-ray.total-is, c.loop-ray.invariant.1))
-    (value ∙ mul_comm (pos c.reading.result) x ∙ rw (c.number-at.ensures, c.reading.ensures))
+    (value ∙ mul_comm (pos c.reading.result) x ∙ rw (c.number_at.ensures, c.reading.ensures))
     (omega (arith, size, low))
     (omega (arith, c.loop-ray-test.true, c.requires.few))
 
-pub overflow-add-total : goal.overflow-add-total
-overflow-add-total g c = rw c.loop-ray.total-is (turn g c).ranges
+pub overflow_add-total : goal.overflow_add-total
+overflow_add-total g c = rw c.loop-ray.total-is (turn g c).fits
 
 pub loop-ray-preserved : goal.loop-ray-preserved
 loop-ray-preserved g c = rw c.loop-ray.total-is ((turn g c).value, (turn g c).size)

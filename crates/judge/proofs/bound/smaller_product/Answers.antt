@@ -30,6 +30,6 @@ returns c =
     let b : c.scaled-high.result ≡ pos g.highest *ℤ w = rw same at c.scaled-high.ensures.value in
     let sa : nat_abs c.scaled-low.result ≤ 1023 * (2 ^ 39 + 2 ^ 22) = omega (arith, rw same at c.scaled-low.ensures.size, low g.lowest w (omega (arith, g.dense.0, g.dense.1)) c.requires) in
     let sb : nat_abs c.scaled-high.result ≤ 1023 * (2 ^ 39 + 2 ^ 22) = omega (arith, rw same at c.scaled-high.ensures.size, low g.highest w g.dense.1 c.requires) in
-    let m : c.min.result ≡ int_min c.scaled-low.result c.scaled-high.result = rw (same_word c.scaled-low.result c.scaled-low.type-inv, same_word c.scaled-high.result c.scaled-high.type-inv) at c.min.ensures.value in
+    let m : c.min.result ≡ int_min c.scaled-low.result c.scaled-high.result = rw (same_word c.scaled-low.result c.scaled-low.type_inv, same_word c.scaled-high.result c.scaled-high.type_inv) at c.min.ensures.value in
     let sm : nat_abs c.min.result ≤ 1023 * (2 ^ 39 + 2 ^ 22) = omega (arith, lin, clamps, ap nat_abs m) in
-    rw (same_word c.min.result c.min.type-inv) (record { value = m ∙ rw (a, b); size = sm })
+    rw (same_word c.min.result c.min.type_inv) (record { value = m ∙ rw (a, b); size = sm })

@@ -21,8 +21,8 @@ turn g c =
     (ray_cost_size m (g.met.M.Misfit.lawful c.args.misfit.now) r k c.residual.ensures.size c.cost-total.ensures)
     (omega (arith, c.loop-ray-test.true, c.rays-ray-end.ensures, l.few_rays))
 
-pub overflow-add-total : goal.overflow-add-total
-overflow-add-total g c = rw c.loop-ray.total-is (turn g c).ranges
+pub overflow_add-total : goal.overflow_add-total
+overflow_add-total g c = rw c.loop-ray.total-is (turn g c).fits
 
 pub loop-ray-preserved : goal.loop-ray-preserved
 loop-ray-preserved g c = rw c.loop-ray.total-is ((turn g c).value, (turn g c).size)

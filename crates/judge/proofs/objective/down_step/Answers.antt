@@ -15,8 +15,8 @@ returns-then-j-settings c =
     let u = c.requires.1.0 in
     let j = c.args.j in
     record {
-      value = c.abs-diff.ensures ∙ step_there _ _ _ _ c.if-j-settings.true;
-      size = omega (arith, c.abs-diff.ensures, u j, u (j + c.args.settings.now.columns));
+      value = c.abs_diff.ensures ∙ step_there _ _ _ _ c.if-j-settings.true;
+      size = omega (arith, c.abs_diff.ensures, u j, u (j + c.args.settings.now.columns));
     }
 
 pub returns-else-j-settings : goal.returns-else-j-settings

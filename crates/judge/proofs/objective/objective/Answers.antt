@@ -11,8 +11,8 @@ use Rattle.judge.proofs.objective.objective.Goals as goal
 rough_low : (strength t : ℕ) → strength ≤ 1048576 → t ≤ 4713984 → 2 * strength * t ≤ 2 ^ 44
 rough_low strength t a b = omega (arith, mul-le (2 * strength) t 2097152 4713984 (omega arith) b)
 
-pub overflow-cast-result : goal.overflow-cast-result
-overflow-cast-result g c =
+pub overflow_cast-result : goal.overflow_cast-result
+overflow_cast-result g c =
     let low = rough_low c.args.settings.now.strength c.total_variation.result c.args.settings.now.strong c.total_variation.ensures.size in
     omega (arith, lin, fits_in, low)
 
@@ -23,8 +23,8 @@ sum_is : (a : ℤ) (b : ℕ) → nat_abs a ≤ 2 ^ 56 → b ≤ 2 ^ 44 → to_z 
 sum_is a b h k =
     to_z-of_z w64 _ (fits a b h k) ∙ rw (same_bits a (omega arith), to_z_pos w64 b (omega arith))
 
-pub overflow-add-result : goal.overflow-add-result
-overflow-add-result g c =
+pub overflow_add-result : goal.overflow_add-result
+overflow_add-result g c =
     let low = rough_low c.args.settings.now.strength c.total_variation.result c.args.settings.now.strong c.total_variation.ensures.size in
     fits c.data_cost.result _ c.data_cost.ensures.size low
 

@@ -6,10 +6,10 @@ use Rattle.problem.proofs.Exchange.{ray_sum_low}
 use Rattle.algebra.proofs.Integers.{lin}
 use Rattle.judge.proofs.Rays.{entry_inside, ray_term_more, not_missing}
 use Rattle.judge.proofs.objective.ray_sum.Goals as goal
-use Rattle.judge.proofs.objective.ray_sum.Goals.{in-Some, in-default}
+use Rattle.judge.proofs.objective.ray_sum.Goals.{in-Some, in_default}
 
-pub offset-bounds-image-pixel : goal.offset-bounds-image-pixel
-offset-bounds-image-pixel g c =
+pub offset_bounds-image-pixel : goal.offset_bounds-image-pixel
+offset_bounds-image-pixel g c =
     let l = g.met.S.Scan.lawful c.args.scan.now in
     omega (arith, entry_inside _ l _ _ _ _ c.in-Some.ensures, l.few_pixels)
 
@@ -17,8 +17,8 @@ pub bounds-image-pixel : goal.bounds-image-pixel
 bounds-image-pixel g c =
     omega (arith, entry_inside _ (g.met.S.Scan.lawful c.args.scan.now) _ _ _ _ c.in-Some.ensures, c.requires.0)
 
-pub overflow-add-sum : goal.overflow-add-sum
-overflow-add-sum g c =
+pub overflow_add-sum : goal.overflow_add-sum
+overflow_add-sum g c =
     let s = g.S.Scan.meaning c.args.scan.now in
     let l = g.met.S.Scan.lawful c.args.scan.now in
     let u = c.args.image.now in
@@ -36,8 +36,8 @@ loop-k-preserved g c =
           let x = get_or u w.in-Some.pixel 0 in
           let more = ray_term_more s l c.args.ray c.loop-k.k w.in-Some.pixel w.in-Some.weight w.in-Some.ensures u in
           ap pos w.sum-is ∙ ap (λ z. z +ℤ pos (w.in-Some.weight * x)) c.loop-k.invariant ∙ sym more
-      | in-default w ↦
-          absurd (not_missing (ray_at s c.args.ray).entries c.loop-k.k (omega (arith, c.loop-k-test.true, c.entries-k-end.ensures)) w.in-default.ensures)
+      | in_default w ↦
+          absurd (not_missing (ray_at s c.args.ray).entries c.loop-k.k (omega (arith, c.loop-k-test.true, c.entries-k-end.ensures)) w.in_default.ensures)
     ]
 
 pub returns : goal.returns

@@ -10,7 +10,7 @@ objective-requires g c = (
   omega (arith, c.if-pixels.false, c.if-image-pixels.false, c.pixels.ensures),
   (
     omega (arith, c.if-image-pixels.false, c.pixels-pixels.ensures),
-    dense_from_none c.args.settings.now c.args.image.now (sym c.in-default.ensures.value),
+    dense_from_none c.args.settings.now c.args.image.now (sym c.in_default.ensures.value),
   ),
 )
 
@@ -21,8 +21,8 @@ bound-requires g c =
     let e = c.end-end.result in
     record {
       pixels = omega (arith, c.if-pixels.false, c.pixels-pixels.ensures, c.pixels.ensures);
-      rays = omega (arith, c.if-ray-numbers-rays.false, c.rays.ensures);
-      admitted = sized_from_none (number_within e) (λ _. e) c.args.ray_numbers.now (λ _ _ _. refl) m.end (λ i. omega (arith, c.end-end.ensures)) (sym c.in-default-first-outside.ensures.value);
+      rays = omega (arith, c.if-ray_numbers-rays.false, c.rays.ensures);
+      admitted = sized_from_none (number_within e) (λ _. e) c.args.ray_numbers.now (λ _ _ _. refl) m.end (λ i. omega (arith, c.end-end.ensures)) (sym c.in_default-first_outside.ensures.value);
       same = omega (arith, c.if-slopes-pixels.false, c.pixels-pixels.ensures);
-      sized = sized_from_none (slope_within s) (slope_limit s) c.args.slopes.now (λ _ _ _. refl) 1048576 (λ k. omega (arith, slope_limit_low s k, s.strong)) (sym c.in-default-first-outside-2.ensures.value);
+      sized = sized_from_none (slope_within s) (slope_limit s) c.args.slopes.now (λ _ _ _. refl) 1048576 (λ k. omega (arith, slope_limit_low s k, s.strong)) (sym c.in_default-first_outside-2.ensures.value);
     }

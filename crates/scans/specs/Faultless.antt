@@ -7,7 +7,7 @@ use Rattle.refusals.specs.declared.Refusal.TheVariants.{Rays, Starts, Entry, Rea
 use Rattle.problem.proofs.Searching.{admitted_from_none, first_none}
 use Rattle.scans.specs.Choosing.{first_some}
 use Rattle.scans.specs.Loading.{start_of, ray_count, ray_entries, start_follows, start_within, entry_within, reading_within, starts_fault, ray_fault, entries_fault, readings_fault, load_fault}
-use Rattle.scans.proofs.Firsts.{both_none, mapped_none, none_before, none_from_unset}
+use Rattle.scans.specs.Firsts.{both_none, mapped_none, none_before, none_from_unset}
 
 -- a test that must fail for there to be no answer
 pub other_none : {X : Type 0} (b : Bool) (x : X) (o : Option X) → cond b (Some x) o ≡ None → (b ≡ false) × (o ≡ None)

@@ -8,9 +8,9 @@ use Rattle.problem.specs.Scans.{LawfulRay, LawfulScan, weight, ray_weight_at}
 use Rattle.problem.proofs.Searching.{admitted_from_none}
 use Rattle.scans.specs.Loading.{ray_count, ray_entries, reading_within}
 use Rattle.scans.specs.Tables.{largest_count, table_ray, table_meaning}
-use Rattle.scans.proofs.Crossings.{each_entry, crossed_once}
-use Rattle.scans.proofs.Faultless.{Faultless, starts_end, count_low, count_is}
-use Rattle.scans.proofs.Firsts.{le_largest, largest_le}
+use Rattle.scans.specs.Crossings.{each_entry, crossed_once}
+use Rattle.scans.specs.Faultless.{Faultless, starts_end, count_low, count_is}
+use Rattle.scans.specs.Firsts.{le_largest, largest_le}
 
 all_made : {X : Type 0} (P : X → Type 0) (f : ℕ → X) (n : ℕ) → ((i : ℕ) → i < n → P (f i)) → All P (map f (range_with_len 0 n))
 all_made P f n h =
