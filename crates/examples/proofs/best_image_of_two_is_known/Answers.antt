@@ -5,6 +5,7 @@ use Rattle.problem.specs.Objective.{objective_at, data_cost, ray_cost, residual,
 use Rattle.problem.specs.Bound.{bound, prices, price_of, readings_product, reading_term, density_product, density_term, least_product, adjoint, with_slopes, slope_from_left, slope_from_above, back_projection, pull_of, ray_pull, entry_pull}
 use Rattle.problem.specs.Fitting.{Fits, proposed}
 use Rattle.problem.specs.Saddle.{LawfulProblem, NoImageBelow}
+use Rattle.problem.proofs.Saddle.{image_fits, duals_fit}
 use Rattle.judge.proofs.Fitting.{fits_if_accepted}
 use Rattle.examples.specs.Slices.{two_rays, two_square}
 use Rattle.examples.proofs.best_image_of_two_is_known.Goals as goal
@@ -44,4 +45,4 @@ best_bound = refl
 
 pub returns : goal.returns
 returns c =
-    (best_fits.image_fits, best_objective, subst (NoImageBelow two_square) best_bound ((c.saddle_theorem.ensures two_square two_lawful).no_image_below_bound _ _ best_fits.duals_fit))
+    (image_fits two_square _ best_fits, best_objective, subst (NoImageBelow two_square) best_bound ((c.saddle_theorem.ensures two_square two_lawful).no_image_below_bound _ _ (duals_fit two_square _ best_fits)))

@@ -24,7 +24,7 @@ turn c =
     (omega (arith, c.loop-j-test.true, c.pixels-j-end.ensures, few_pixels g))
 
 pub overflow_add-total : goal.overflow_add-total
-overflow_add-total c = rw c.loop-j.total-is (turn c).ranges
+overflow_add-total c = rw c.loop-j.total-is (turn c).fits
 
 pub loop-j-preserved : goal.loop-j-preserved
 loop-j-preserved c = rw c.loop-j.total-is ((turn c).value, (turn c).size)
