@@ -5,14 +5,14 @@ ghost use Rattle.problem.specs.Saddle.{Weighed};
 ghost use Rattle.judge.specs.Judging.{judged};
 
 use crate::bound::bound;
+use crate::limits::{Densities, RayNumbers, Slopes};
 use crate::objective::objective;
+use crate::verdict::Verdict;
 use problem::limits::first_outside;
 use problem::misfit::Misfit;
 use problem::scan::Scan;
 use problem::settings::Settings;
 use refusals::Refusal;
-use crate::limits::{Densities, RayNumbers, Slopes};
-use crate::verdict::Verdict;
 
 // Judges an image with its ray numbers and slopes: objective and bound, or the first thing that does not fit.
 // It takes no memory from the heap, and one pass over the entries for each of the two numbers.

@@ -6,10 +6,10 @@ ghost use Rattle.scans.specs.Tables.{table_meaning, no_rays, largest_count, larg
 ghost use Rattle.scans.specs.Stored.{stored_meaning};
 
 use super::StoredScan;
+use crate::faults::load_fault;
 use problem::settings::Settings;
 use refusals::Refusal;
 use std::alloc::Global;
-use crate::faults::load_fault;
 
 // The items in memory of their own.
 fn copied<T: Copy>(heap: Global, items: &[T]) -> Result<Vec<T>, Refusal>
