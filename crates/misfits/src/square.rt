@@ -1,7 +1,7 @@
+ghost use Rattle.std.specs.Prelude.{refl};
 ghost use Rattle.misfits.specs.Meanings.{square};
 ghost use Rattle.misfits.specs.Driven.{square_driven};
 ghost use Rattle.misfits.specs.Laws.{square_lawful};
-ghost use Rattle.std.proofs.Common.{rules};
 
 use crate::{WIDEST, clipped_at, product, within};
 use problem::misfit::{DrivenMisfit, Misfit};
@@ -19,7 +19,7 @@ impl Misfit for Square {
 
     ghost lawful = { λ m. square_lawful };
 
-    ghost coded = { Prim.search rules };
+    ghost coded = { λ _. refl };
 
     fn kind() -> u8 {
         Self::CODE

@@ -3,7 +3,7 @@ use Rattle.algebra.specs.Sums.{sum_to}
 use Rattle.algebra.proofs.Integers.{mul_comm}
 use Rattle.algebra.proofs.Sums.{Added, added}
 use Rattle.algebra.proofs.Words.{same_word}
-use Rattle.problem.specs.Bound.{at, reading_term}
+use Rattle.problem.specs.Bound.{reading_term}
 use Rattle.judge.proofs.Costs.{reading_low}
 use Rattle.judge.proofs.bound.readings_product.Goals as goal
 use Rattle.judge.proofs.bound.readings_product.Given as given

@@ -1,7 +1,7 @@
 use Rattle.std.proofs.Common.{◌≡◌, ℕ, ◌*◌, ◌≤◌, pos, ◌-ℤ◌, nat_abs, arith, w64}
 use Rattle.std.proofs.lemmas.Int.{to_z_pos}
 use Rattle.problem.specs.Scans.{ray_at}
-use Rattle.problem.specs.Objective.{residual, ray_sum}
+use Rattle.problem.specs.Objective.{residual}
 use Rattle.problem.proofs.Rays.{lawful_ray}
 use Rattle.algebra.proofs.Words.{same_bits}
 use Rattle.problem.proofs.Exchange.{residual_reached}
