@@ -1,6 +1,6 @@
 -- What a scan means, and the law of scans. Assumes nothing.
 use Rattle.std.specs.Prelude.{ℕ, ◌<◌, ◌≤◌, cond, List, [], length, sum_by, Option, ◌==◌, slice_index_or}
-use Rattle.std.specs.List.{slice_get, AllByRecursion as All}
+use Rattle.std.specs.List.{slice_get, AllByRecursion}
 
 -- the pixels that a ray crosses, each with its weight, and what the detector read
 pub record Ray : Type 0 where
@@ -45,8 +45,8 @@ abbrev pub pixel_weight : ScanMeaning → ℕ → ℕ
 pixel_weight s j = sum_by (ray_weight_at j) s.rays
 
 pub record LawfulRay (s : ScanMeaning) (r : Ray) : Type 0 where
-  pub weighty : All (λ e. 1 ≤ e.1) r.entries
-  pub inside : All (λ e. e.0 < s.pixels) r.entries
+  pub weighty : AllByRecursion (λ e. 1 ≤ e.1) r.entries
+  pub inside : AllByRecursion (λ e. e.0 < s.pixels) r.entries
   pub light : ray_weight r ≤ s.ray_cap
   pub low : r.reading ≤ s.reading_cap
 
@@ -57,5 +57,5 @@ pub record LawfulScan (s : ScanMeaning) : Type 0 where
   pub ray_cap_low : s.ray_cap ≤ 4096
   pub pixel_cap_low : s.pixel_cap ≤ 131072
   pub reading_cap_low : s.reading_cap ≤ 4194303
-  pub each_ray : All (LawfulRay s) s.rays
+  pub each_ray : AllByRecursion (LawfulRay s) s.rays
   pub each_pixel : (j : ℕ) → pixel_weight s j ≤ s.pixel_cap

@@ -1,6 +1,6 @@
 -- A ray with no wrong entry: its weights, in all and at one pixel. Assumes nothing.
 use Rattle.std.proofs.Common.{◌≡◌, ℕ, suc, ◌<◌, ◌≤◌, true, ◌&&◌, eqb, ltb, leb, List, [], ◌∷◌, Some, None, sum_by, Option, refl, inl, inr, arith}
-use Rattle.std.specs.List.{AllByRecursion as All}
+use Rattle.std.specs.List.{AllByRecursion}
 use Rattle.std.proofs.lemmas.List.Sums.{sum_by-cons}
 use Rattle.std.proofs.lemmas.Bool.{and_parts, leb-true, ltb-true, ne_eqb, cases_eq, eq-eqb, cond-true, cond-false}
 use Rattle.problem.specs.Search.{first_from}
@@ -33,7 +33,7 @@ module _ (pixels : ℕ) where
   rest i before e es h = (first_none (entry_within pixels i before e) _ i h).1
 
   -- what holds of a sound entry holds of each
-  pub each_entry : (P : ℕ × ℕ → Type 0) → ((before : Option (ℕ × ℕ)) (e : ℕ × ℕ) → Sound before e → P e) → (i : ℕ) (before : Option (ℕ × ℕ)) (es : List (ℕ × ℕ)) → Clean i before es → All P es
+  pub each_entry : (P : ℕ × ℕ → Type 0) → ((before : Option (ℕ × ℕ)) (e : ℕ × ℕ) → Sound before e → P e) → (i : ℕ) (before : Option (ℕ × ℕ)) (es : List (ℕ × ℕ)) → Clean i before es → AllByRecursion P es
   each_entry P give i before [] h = tt
   each_entry P give i before (e ∷ es) h =
       (give before e (first i before e es h), each_entry P give (suc i) (Some e) es (rest i before e es h))

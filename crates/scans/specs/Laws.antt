@@ -1,6 +1,6 @@
 -- A table of rays with no fault keeps the law of scans. Assumes nothing.
 use Rattle.std.proofs.Common.{◌≡◌, ℕ, ◌+◌, ◌*◌, ◌<◌, ◌≤◌, List, map, length, get_or, None, sum_by, sym, ◌∙◌, subst, arith}
-use Rattle.std.specs.List.{range_with_len, AllByRecursion as All}
+use Rattle.std.specs.List.{range_with_len, AllByRecursion}
 use Rattle.std.proofs.lemmas.List.FromFn.{length-range_with_len, get_or-range_with_len, length-map-range_with_len}
 use Rattle.std.proofs.ByRecursion.{All-from_get_or, All-map, sum_by_le}
 use Rattle.std.proofs.lemmas.Bool.{leb-true}
@@ -12,7 +12,7 @@ use Rattle.scans.specs.Crossings.{each_entry, crossed_once}
 use Rattle.scans.specs.Faultless.{Faultless, starts_end, count_low, count_is}
 use Rattle.scans.specs.Firsts.{le_largest, largest_le}
 
-all_made : {X : Type 0} (P : X → Type 0) (f : ℕ → X) (n : ℕ) → ((i : ℕ) → i < n → P (f i)) → All P (map f (range_with_len 0 n))
+all_made : {X : Type 0} (P : X → Type 0) (f : ℕ → X) (n : ℕ) → ((i : ℕ) → i < n → P (f i)) → AllByRecursion P (map f (range_with_len 0 n))
 all_made P f n h =
     All-map P f (range_with_len 0 n)
     (All-from_get_or (λ i. P (f i)) (range_with_len 0 n) 0 (λ i lt.
