@@ -4,7 +4,7 @@
 For each slice: the bound is under the Lagrangian and the Lagrangian under the objective, for images whole and in
 fractions; the dual numbers that answer an image reach its objective, and the image that answers dual numbers
 reaches their bound. Then the same with one definition turned at a time, as the must-fail edits of the crate
-`duality` turn it: each must break the theorem. It is no part of the gate.
+`problem` turn it: each must break the theorem. It is no part of the gate.
 
     python3 tools/plain_saddle.py [SLICES]      (2000 if left out)
 """

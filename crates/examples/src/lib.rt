@@ -1,4 +1,4 @@
-// Worked examples, proved of the very definitions that the contracts cite.
+// Worked examples: proved of the very definitions that the contracts cite, and run through the code as tests.
 #![tactic(auto)]
 
 ghost use Rattle.examples.specs.Worked.{WorkedExamples, SaddleExamples, BestImageOfTwo};

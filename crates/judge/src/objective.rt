@@ -1,7 +1,7 @@
 ghost use Rattle.std.specs.Prelude.{◌≡◌, ℕ, ◌+◌, ◌*◌, ◌^◌, ◌<◌, ◌≤◌, length, pos, unsigned_abs};
 ghost use Rattle.problem.specs.Setting.{pixel_count};
 ghost use Rattle.problem.specs.Scans.{ray_at};
-ghost use Rattle.problem.specs.Objective.{ray_sum, residual as residual-of, data_cost, right_difference, down_difference, total_variation, objective as objective-of, posed};
+ghost use Rattle.problem.specs.Objective.{ray_sum, residual as residual_of, data_cost, right_difference, down_difference, total_variation, objective as objective_of, posed};
 ghost use Rattle.judge.specs.Sizes.{Dense};
 
 use problem::misfit::Misfit;
@@ -26,7 +26,7 @@ fn ray_sum<S: Scan>(scan: &S, ray: usize, image: &[u16]) -> u64
 // The ray's sum less its reading.
 fn residual<S: Scan>(scan: &S, ray: usize, image: &[u16]) -> i64
     requires { (length image.now ≡ (S.Scan.meaning scan.now).pixels) × (Dense image.now) }
-    ensures value { result ≡ residual-of 1 image.now (ray_at (S.Scan.meaning scan.now) ray) }
+    ensures value { result ≡ residual_of 1 image.now (ray_at (S.Scan.meaning scan.now) ray) }
     ensures size { unsigned_abs result ≤ 4194304 }
 {
     ray_sum(scan, ray, image) as i64 - scan.reading(ray) as i64
@@ -92,7 +92,7 @@ pub(crate) fn objective<S: Scan, M: Misfit>(
     image: &[u16],
 ) -> i64
     requires { (length image.now ≡ (S.Scan.meaning scan.now).pixels) × ((length image.now ≡ pixel_count settings.now) × (Dense image.now)) }
-    ensures value { result ≡ objective-of (posed settings.now (S.Scan.meaning scan.now) (M.Misfit.meaning misfit.now)) image.now }
+    ensures value { result ≡ objective_of (posed settings.now (S.Scan.meaning scan.now) (M.Misfit.meaning misfit.now)) image.now }
     ensures size { unsigned_abs result ≤ 2 ^ 57 }
 {
     let rough = 2 * settings.strength as u64 * total_variation(settings, image);

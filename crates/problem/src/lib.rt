@@ -1,5 +1,5 @@
 // The reconstruction problem of one slice: its settings, what a scan and a misfit have to answer,
-// and the search for the first number outside its limits.
+// the search for the first number outside its limits, and the saddle theorem of objective and bound.
 #![tactic(auto)]
 
 pub mod duality;
