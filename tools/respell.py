@@ -50,7 +50,7 @@ starts-rise step-there stored-meaning stored-span strength-is subgradient-answer
 table-meaning table-ray tolerance-is total-variation two-absolute two-lawful two-loads two-means two-rays
 two-rays-lawful two-settings two-square variation-in-row verdict-of weighed-if-accepted weight-at weight-here
 weight-low weight-more weight-so-far weights-low whole-fits whole-low with-left with-sign with-slopes
-bound-of image-length image-within objective-of ray-numbers-within residual-of residual-size term-low
+image-length image-within objective-of ray-numbers-within residual-of residual-size term-low
 sumTo-cong sumTo-le sumTo-more sumTo-only sumTo-pairs sumTo-shift sumTo-split sumTo-swap
 """
 

@@ -116,8 +116,10 @@ SaddleOfSix =
     × (answering_numbers six_absolute six_image ≡ negsuc 2 ∷ pos 3 ∷ negsuc 2 ∷ negsuc 2 ∷ [])
     × (answering_slopes six_settings six_image ≡ pos 6 ∷ pos 6 ∷ negsuc 5 ∷ negsuc 5 ∷ pos 0 ∷ pos 6 ∷ negsuc 5 ∷ pos 0 ∷ pos 6 ∷ pos 0 ∷ pos 0 ∷ pos 0 ∷ [])
 
+-- what the judge tells of the two slices
 abbrev pub WorkedExamples : Type 0
 WorkedExamples = BestOfTwo × ReadingsOfTwo × FlatOfTwo × AbsoluteOfTwo × RefusedOfTwo × AdmittedOfTwo × FractionOfTwo × SixPixels
 
+-- the Lagrangian in both of them, and where it reaches bound and objective
 abbrev pub SaddleExamples : Type 0
 SaddleExamples = SaddleOfTwo × SaddleOfSix
