@@ -3,14 +3,13 @@
 ghost use Rattle.std.specs.Prelude.{◌≡◌, Some};
 ghost use Rattle.refusals.specs.declared.Refusal.TheVariants.{OutOfMemory};
 ghost use Rattle.refusals.specs.Telling.{number_of, place_of, words_of, told, same};
-ghost use Rattle.refusals.specs.Laws.{same_laws};
 
 use std::alloc::AllocError;
 use std::error::Error;
 use std::fmt;
 
 // Why a call answers nothing. Each case has its number and its place; a refused call has changed nothing.
-#[derive(Clone, Copy)]
+#[derive(Clone, Copy, PartialEq, Eq, Debug)]
 pub enum Refusal {
     OutOfMemory,
     Size,
@@ -59,7 +58,8 @@ impl Refusal {
 
     // Where the fault is, counted from 0; 0 where the refusal tells no place.
     pub fn place(&self) -> usize
-        ensures { result ≡ place_of self.now }
+        ensures value { result ≡ place_of self.now }
+        ensures compared { (e : Refusal) → ⟦<Refusal as PartialEq>⟧.eq e self.now ≡ same e self.now }
     {
         match self {
             Refusal::Starts(place)
@@ -119,20 +119,3 @@ impl From<AllocError> for Refusal {
 }
 
 impl Error for Refusal {}
-
-// A refusal is known by its number and its place.
-impl PartialEq for Refusal {
-    ghost eq = { λ x y. same x y };
-
-    ghost laws = { same_laws };
-
-    fn eq(&self, other: &Refusal) -> bool {
-        self.number() == other.number() && self.place() == other.place()
-    }
-}
-
-impl fmt::Debug for Refusal {
-    fn fmt<W: fmt::Write>(&self, f: &mut fmt::Formatter<W>) -> fmt::Result {
-        write!(f, "{self}")
-    }
-}
