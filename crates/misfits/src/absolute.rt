@@ -21,7 +21,7 @@ impl Absolute {
     pub fn new(slope: u32) -> Result<Absolute, Refusal>
         ensures { MatchResult result (λ m. (between 1 1024 slope ≡ true) × (m.slope ≡ slope)) (λ e. (between 1 1024 slope ≡ false) × (e ≡ Setting)) }
     {
-        if slope < 1 || slope > 1024 {
+        if !(1..=1024).contains(&slope) {
             return Err(Refusal::Setting);
         }
         Ok(Absolute { slope })
@@ -31,17 +31,13 @@ impl Absolute {
 impl Misfit for Absolute {
     const CODE: u8 = 2;
 
-    ghost kind = { 2 };
+    ghost CODE = { 2 };
 
     ghost meaning = { λ m. absolute m.slope };
 
     ghost lawful = { λ m. absolute_lawful m.slope m.sloped.1 };
 
     ghost coded = { λ _. refl };
-
-    fn kind() -> u8 {
-        Self::CODE
-    }
 
     fn cost(&self, residual: i64) -> i64 {
         if within(residual, WIDEST) {

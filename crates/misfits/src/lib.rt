@@ -21,6 +21,7 @@ fn within(number: i64, end: u32) -> bool
 }
 
 // The product of two numbers that are between - WIDEST and WIDEST.
+#[tactic(auto, using(crate::specs::Laws::product_steps))]
 fn product(a: i64, b: i64) -> i64
     requires { (unsigned_abs a ≤ widest) × (unsigned_abs b ≤ widest) }
     ensures { result ≡ a *ℤ b }
@@ -32,6 +33,6 @@ fn product(a: i64, b: i64) -> i64
 fn clipped_at(end: u32, x: f64) -> f64
     ensures { result ≡ clip_at end x }
 {
-    let high = end as f64;
+    let high = f64::from(end);
     clipped(x, -high, high)
 }

@@ -13,17 +13,13 @@ pub struct Square;
 impl Misfit for Square {
     const CODE: u8 = 1;
 
-    ghost kind = { 1 };
+    ghost CODE = { 1 };
 
     ghost meaning = { λ _. square };
 
     ghost lawful = { λ m. square_lawful };
 
     ghost coded = { λ _. refl };
-
-    fn kind() -> u8 {
-        Self::CODE
-    }
 
     fn cost(&self, residual: i64) -> i64 {
         if within(residual, WIDEST) {

@@ -8,3 +8,4 @@ pub mod Bound
 pub mod Fitting
 pub mod Lagrangian
 pub mod Saddle
+pub mod Posed

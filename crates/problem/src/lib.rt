@@ -5,5 +5,7 @@
 pub mod duality;
 pub mod limits;
 pub mod misfit;
+pub mod posed;
+pub mod proposal;
 pub mod scan;
 pub mod settings;

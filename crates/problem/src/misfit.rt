@@ -7,13 +7,9 @@ pub trait Misfit {
     // Which misfit it is, for the certificate.
     const CODE: u8;
 
-    ghost kind: { ℕ };
+    ghost CODE: { ℕ };
 
     ghost meaning: { Self → MisfitMeaning };
-
-    // The constant, as a question with a contract.
-    fn kind() -> u8
-        ensures { result ≡ kind };
 
     // Twice the cost of a residual.
     fn cost(&self, residual: i64) -> i64
@@ -33,7 +29,14 @@ pub trait Misfit {
 
     ghost lawful: { (m : Self) → LawfulMisfit (meaning m) };
 
-    ghost coded: { (m : Self) → (meaning m).code ≡ kind };
+    ghost coded: { (m : Self) → (meaning m).code ≡ CODE };
+
+    // The constant, as a question.
+    final fn kind() -> u8
+        ensures { result ≡ CODE }
+    {
+        Self::CODE
+    }
 }
 
 // A misfit that steps can drive has one question more.

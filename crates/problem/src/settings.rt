@@ -1,6 +1,6 @@
 ghost use Rattle.std.specs.Prelude.{◌≤◌};
 
-pub mod making;
+use refusals::Refusal;
 
 // What is known of a slice before it is scanned. The limits hold for as long as a record exists.
 #[derive(Clone, Copy)]
@@ -18,4 +18,49 @@ pub struct Settings {
     ghost dense: { (lowest ≤ highest) × (highest ≤ 1023) },
     ghost strong: { strength ≤ 1048576 },
     ghost tolerant: { tolerance ≤ 1000000000000 },
+}
+
+impl Settings {
+    ghost use Rattle.std.specs.Prelude.{◌≡◌, ◌*◌, Some, None, MatchResult};
+    ghost use Rattle.problem.specs.Setting.{settings_fault, pixel_count, Holds};
+
+    // Settings of these numbers, or the first rule that they break.
+    pub fn new(
+        columns: usize,
+        rows: usize,
+        lowest: u16,
+        highest: u16,
+        strength: u32,
+        tolerance: u64,
+    ) -> Result<Settings, Refusal>
+        ensures { MatchResult result (λ s. (settings_fault columns rows lowest highest strength tolerance ≡ None) × Holds columns rows lowest highest strength tolerance s) (λ e. settings_fault columns rows lowest highest strength tolerance ≡ Some e) }
+    {
+        if !(1..=48).contains(&columns) || !(1..=48).contains(&rows) {
+            return Err(Refusal::Size);
+        }
+        if lowest > highest || highest > 1023 {
+            return Err(Refusal::Density);
+        }
+        if strength > 1_048_576 {
+            return Err(Refusal::Strength);
+        }
+        if tolerance > 1_000_000_000_000 {
+            return Err(Refusal::Setting);
+        }
+        Ok(Settings {
+            columns,
+            rows,
+            lowest,
+            highest,
+            strength,
+            tolerance,
+        })
+    }
+
+    // The number of pixels of the slice.
+    pub fn pixels(&self) -> usize
+        ensures { result ≡ pixel_count self.now }
+    {
+        self.columns * self.rows
+    }
 }
