@@ -33,13 +33,21 @@ mod tests {
     use problem::settings::Settings;
     use refusals::Refusal;
     use scans::stored::StoredScan;
+    use scans::table::Table;
     use std::alloc::Global;
     use std::test::Fail;
 
     // Two pixels, each crossed by a ray of its own.
     fn two_rays(heap: Global, settings: &Settings) -> Result<StoredScan, Refusal> {
         let mut scan = StoredScan::new(heap, settings)?;
-        scan.load(heap, &[0, 1, 2], &[(0, 1), (1, 1)], &[4, 8])?;
+        scan.load(
+            heap,
+            &Table {
+                starts: &[0, 1, 2],
+                entries: &[(0, 1), (1, 1)],
+                readings: &[4, 8],
+            },
+        )?;
         Ok(scan)
     }
 
@@ -128,7 +136,14 @@ mod tests {
     fn a_refused_load_changes_nothing(rt: HostRuntime) -> Result<(), Fail> {
         let settings = Settings::new(2, 1, 0, 10, 1, 0)?;
         let mut scan = two_rays(rt.alloc(), &settings)?;
-        let refused = scan.load(rt.alloc(), &[0, 1, 2], &[(0, 1), (2, 1)], &[5, 5]);
+        let refused = scan.load(
+            rt.alloc(),
+            &Table {
+                starts: &[0, 1, 2],
+                entries: &[(0, 1), (2, 1)],
+                readings: &[5, 5],
+            },
+        );
         assert_eq!(rt; refused, Err(Refusal::Entry(1)));
         assert_eq!(rt; scan.entry(1, 0), Some((1, 1)));
         assert_eq!(rt; scan.reading(0), 4);

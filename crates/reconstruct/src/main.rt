@@ -9,6 +9,7 @@ use crate::slices::{Slice, six_pixels, two_pixels};
 use misfits::absolute::Absolute;
 use misfits::square::Square;
 use problem::misfit::Misfit;
+use scans::table::Table;
 use std::io;
 
 fn main(rt: HostRuntime) -> anyhow::Result<()> {
@@ -45,9 +46,12 @@ fn show_refused(rt: &HostRuntime, two: &mut Slice, six: &Slice) -> io::Result<()
         slopes: &[],
     };
     tell(rt, &six.settings, &two.scan, &Square, other)?;
-    let answer = two
-        .scan
-        .load(rt.alloc(), &[0, 1, 2], &[(0, 1), (2, 1)], &[4, 8]);
+    let table = Table {
+        starts: &[0, 1, 2],
+        entries: &[(0, 1), (2, 1)],
+        readings: &[4, 8],
+    };
+    let answer = two.scan.load(rt.alloc(), &table);
     tell_refusal(rt, "a table with an entry past the slice", answer)
 }
 

@@ -7,6 +7,7 @@ ghost use Rattle.examples.specs.Slices.{two_rays, six_rays};
 use problem::settings::Settings;
 use refusals::Refusal;
 use scans::stored::StoredScan;
+use scans::table::Table;
 use std::alloc::Global;
 
 // A slice with its scan.
@@ -22,7 +23,14 @@ pub(crate) fn two_pixels(heap: Global) -> Result<Slice, Refusal>
 {
     let settings = Settings::new(2, 1, 0, 10, 1, 0)?;
     let mut scan = StoredScan::new(heap, &settings)?;
-    scan.load(heap, &[0, 1, 2], &[(0, 1), (1, 1)], &[4, 8])?;
+    scan.load(
+        heap,
+        &Table {
+            starts: &[0, 1, 2],
+            entries: &[(0, 1), (1, 1)],
+            readings: &[4, 8],
+        },
+    )?;
     Ok(Slice { settings, scan })
 }
 
@@ -43,6 +51,13 @@ pub(crate) fn six_pixels(heap: Global) -> Result<Slice, Refusal>
         (3, 4),
         (5, 1),
     ];
-    scan.load(heap, &starts, &entries, &[31, 20, 7, 45])?;
+    scan.load(
+        heap,
+        &Table {
+            starts: &starts,
+            entries: &entries,
+            readings: &[31, 20, 7, 45],
+        },
+    )?;
     Ok(Slice { settings, scan })
 }

@@ -1,8 +1,9 @@
 -- A ray with no wrong entry: its weights, in all and at one pixel. Assumes nothing.
-use Rattle.std.proofs.Common.{◌≡◌, ℕ, suc, ◌<◌, ◌≤◌, true, ◌&&◌, eqb, ltb, leb, List, [], ◌∷◌, Some, None, sum_by, Option, refl, inl, inr, arith}
+use Rattle.std.proofs.Common.{◌≡◌, ℕ, suc, ◌<◌, ◌≤◌, true, List, [], ◌∷◌, Some, None, sum_by, Option, refl, inl, inr, arith, rules, tests}
 use Rattle.std.specs.List.{AllByRecursion}
 use Rattle.std.proofs.lemmas.List.Sums.{sum_by-cons}
-use Rattle.std.proofs.lemmas.Bool.{and_parts, leb-true, ltb-true, ne_eqb, cases_eq, eq-eqb, cond-true, cond-false}
+use Rattle.std.proofs.lemmas.Bool.Decides.{nat_tests}
+use Rattle.std.proofs.lemmas.Bool.{ltb-true, cases_eq}
 use Rattle.problem.specs.Search.{first_from}
 use Rattle.problem.specs.Scans.{weight_at}
 use Rattle.scans.specs.Loading.{entry_within, pixel_rises}
@@ -20,11 +21,7 @@ module _ (pixels : ℕ) where
     pub rises : pixel_rises before e.0 ≡ true
 
   sound : (i : ℕ) (before : Option (ℕ × ℕ)) (e : ℕ × ℕ) → entry_within pixels i before e ≡ true → Sound before e
-  sound i before e h =
-      let a = and_parts (ltb e.0 pixels && (leb 1 e.1 && leb e.1 31)) (pixel_rises before e.0) h in
-      let b = and_parts (ltb e.0 pixels) (leb 1 e.1 && leb e.1 31) a.0 in
-      let c = and_parts (leb 1 e.1) (leb e.1 31) b.1 in
-      record { inside = ltb-true _ _ b.0; weighty = leb-true _ _ c.0; light = leb-true _ _ c.1; rises = a.1 }
+  sound i before e h = search (rules, tests)
 
   first : (i : ℕ) (before : Option (ℕ × ℕ)) (e : ℕ × ℕ) (es : List (ℕ × ℕ)) → Clean i before (e ∷ es) → Sound before e
   first i before e es h = sound i before e (first_none (entry_within pixels i before e) _ i h).0
@@ -43,7 +40,7 @@ module _ (pixels : ℕ) where
   passed j i last [] le h = refl
   passed j i last (e ∷ es) le h =
       let up : last.0 < e.0 = ltb-true last.0 e.0 (first i (Some last) e es h).rises in
-      let w : weight_at j e ≡ 0 = cond-false (eqb e.0 j) e.1 0 (ne_eqb e.0 j (λ s. omega arith)) in
+      let w : weight_at j e ≡ 0 = grind (arith, nat_tests) in
       omega (arith, sum_by-cons (weight_at j) e es, w, passed j (suc i) e es (omega arith) (rest i (Some last) e es h))
 
   -- a ray crosses a pixel once at most
@@ -52,9 +49,9 @@ module _ (pixels : ℕ) where
   crossed_once j i before (e ∷ es) h =
       elim (cases_eq e.0 j) [
         | inl same ↦
-            let w : weight_at j e ≡ e.1 = cond-true (eqb e.0 j) e.1 0 (eq-eqb e.0 j same) in
+            let w : weight_at j e ≡ e.1 = grind (arith, nat_tests) in
             omega (arith, sum_by-cons (weight_at j) e es, w, (first i before e es h).light, passed j (suc i) e es (omega arith) (rest i before e es h))
         | inr apart ↦
-            let w : weight_at j e ≡ 0 = cond-false (eqb e.0 j) e.1 0 (ne_eqb e.0 j apart) in
+            let w : weight_at j e ≡ 0 = grind (arith, nat_tests) in
             omega (arith, sum_by-cons (weight_at j) e es, w, crossed_once j (suc i) (Some e) es (rest i before e es h))
       ]

@@ -6,4 +6,3 @@ pub mod Faultless
 pub mod Crossings
 pub mod Laws
 pub mod Stored
-pub mod Shape

@@ -16,10 +16,7 @@ impl Limits<usize> for StartLimits {
     fn admits(&self, place: usize, before: Option<usize>, start: usize) -> bool
         ensures { result ≡ start_within self.now.rays self.now.entries place before start }
     {
-        let follows = match before {
-            None => start == 0,
-            Some(last) => last <= start && start - last <= 128,
-        };
+        let follows = before.map_or(start == 0, |last| last <= start && start - last <= 128);
         follows && start <= 65_536 && (place != self.rays || start == self.entries)
     }
 }
@@ -36,11 +33,8 @@ impl Limits<(usize, u32)> for EntryLimits {
     fn admits(&self, _place: usize, before: Option<(usize, u32)>, entry: (usize, u32)) -> bool
         ensures { result ≡ entry_within self.now.pixels _place before entry }
     {
-        let rises = match before {
-            None => true,
-            Some(last) => last.0 < entry.0,
-        };
-        entry.0 < self.pixels && 1 <= entry.1 && entry.1 <= 31 && rises
+        let rises = before.is_none_or(|last| last.0 < entry.0);
+        entry.0 < self.pixels && (1..=31).contains(&entry.1) && rises
     }
 }
 

@@ -1,12 +1,12 @@
-use Rattle.std.proofs.Common.{get_or, sym, arith}
-use Rattle.scans.specs.Firsts.{largest_start, largest_more}
+use Rattle.std.proofs.Common.{get_or, refl, ◌∙◌}
+use Rattle.std.specs.Ordering.{nat_cmp, max_by_ordering}
+use Rattle.std.proofs.lemmas.Iterator.{YieldsList-from_slice}
+use Rattle.std.proofs.lemmas.Iterator.Consumers.{YieldsList-from_copied, reduce_from_yields_List}
+use Rattle.scans.proofs.Neighbours.{max_is_largest}
 use Rattle.scans.proofs.stored.loading.largest_reading.Goals as goal
-use Rattle.scans.proofs.stored.loading.largest_reading.Goals.{then-reading-largest, else-reading-largest}
 
-pub loop-reading-init : goal.loop-reading-init
-loop-reading-init c = sym (largest_start _)
-
-pub loop-reading-preserved : goal.loop-reading-preserved
-loop-reading-preserved c =
-    let e = largest_more (λ i. get_or c.args.readings.now i 0) c.loop-reading.reading-index in
-    elim c.if-reading-largest.branch [ then-reading-largest w ↦ omega (arith, w.largest-is) | else-reading-largest w ↦ omega (arith, w.largest-is) ]
+pub returns : goal.returns
+returns c =
+    let readings = c.args.readings.now in
+    let best = reduce_from_yields_List (λ p z. max_by_ordering (nat_cmp p z) p z) c.copied.result c.max.result c.max.ensures.ran (YieldsList-from_copied (YieldsList-from_slice readings cc)) in
+    c.unwrap_or.ensures ∙ max_is_largest readings (λ i. get_or readings i 0) (λ i lt. refl) c.max.result _ best refl
