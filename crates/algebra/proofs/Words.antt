@@ -1,5 +1,5 @@
 -- A signed number and its 64 bits. Assumes nothing.
-use Rattle.std.proofs.Common.{◌≡◌, ◌^◌, ◌<◌, ℤ, ◌+ℤ◌, ◌-ℤ◌, ◌*ℤ◌, nat_abs, arith, w64, SFits, to_z, of_z}
+use Rattle.std.proofs.Common.{◌≡◌, ◌^◌, ◌<◌, ℤ, nat_abs, arith, w64, to_z, of_z}
 use lib.Signed.{mag}
 use Rattle.std.proofs.lemmas.Int.{ints}
 
@@ -10,17 +10,3 @@ same_bits x h = omega (arith, ints)
 -- a call's answer comes back from its bits
 pub same_word : (x : ℤ) → mag x < 2 ^ 63 → to_z w64 (of_z w64 x) ≡ x
 same_word x h = omega (arith, ints)
-
--- one operation after another: the operands are known, and the exact result fits
-module _ (x' y' x y : ℤ) (ex : x' ≡ x) (ey : y' ≡ y) where
-  pub add_words : nat_abs (x +ℤ y) < 2 ^ 63 → to_z w64 (of_z w64 (x' +ℤ y')) ≡ x +ℤ y
-  add_words h = omega (arith, ints)
-
-  pub add_fits : nat_abs (x +ℤ y) < 2 ^ 63 → SFits w64 (x' +ℤ y')
-  add_fits h = omega (arith, ints)
-
-  pub sub_words : nat_abs (x -ℤ y) < 2 ^ 63 → to_z w64 (of_z w64 (x' -ℤ y')) ≡ x -ℤ y
-  sub_words h = omega (arith, ints)
-
-  pub mul_words : nat_abs (x *ℤ y) < 2 ^ 63 → to_z w64 (of_z w64 (x' *ℤ y')) ≡ x *ℤ y
-  mul_words h = grind (arith, ints)

@@ -29,6 +29,8 @@ mod tests {
     use misfits::absolute::Absolute;
     use misfits::square::Square;
     use problem::misfit::{DrivenMisfit, Misfit};
+    use problem::posed::Problem;
+    use problem::proposal::Proposal;
     use problem::scan::Scan;
     use problem::settings::Settings;
     use refusals::Refusal;
@@ -37,18 +39,43 @@ mod tests {
     use std::alloc::Global;
     use std::test::Fail;
 
-    // Two pixels, each crossed by a ray of its own.
-    fn two_rays(heap: Global, settings: &Settings) -> Result<StoredScan, Refusal> {
-        let mut scan = StoredScan::new(heap, settings)?;
-        scan.load(
-            heap,
-            &Table {
-                starts: &[0, 1, 2],
-                entries: &[(0, 1), (1, 1)],
-                readings: &[4, 8],
-            },
-        )?;
-        Ok(scan)
+    // Two pixels side by side, densities 0 to 10, strength 1, each crossed by a ray of its own.
+    #[derive(Drop)]
+    struct Two {
+        settings: Settings,
+        scan: StoredScan,
+    }
+
+    impl Two {
+        fn load(heap: Global) -> Result<Two, Refusal> {
+            let settings = Settings::new(2, 1, 0, 10, 1, 0)?;
+            let mut scan = StoredScan::new(heap, &settings)?;
+            scan.load(
+                heap,
+                &Table {
+                    starts: &[0, 1, 2],
+                    entries: &[(0, 1), (1, 1)],
+                    readings: &[4, 8],
+                },
+            )?;
+            Ok(Two { settings, scan })
+        }
+
+        fn problem<'a, M>(&'a self, misfit: &'a M) -> Problem<'a, StoredScan, M> {
+            Problem {
+                settings: &self.settings,
+                scan: &self.scan,
+                misfit,
+            }
+        }
+    }
+
+    fn proposal<'a>(image: &'a [u16], ray_numbers: &'a [i32], slopes: &'a [i32]) -> Proposal<'a> {
+        Proposal {
+            image,
+            ray_numbers,
+            slopes,
+        }
     }
 
     fn told(objective: i64, bound: i64) -> Result<Verdict, Refusal> {
@@ -57,69 +84,48 @@ mod tests {
 
     #[test]
     fn two_pixels_are_judged(rt: HostRuntime) -> Result<(), Fail> {
-        let settings = Settings::new(2, 1, 0, 10, 1, 0)?;
-        let scan = two_rays(rt.alloc(), &settings)?;
-        let best = weigh(&settings, &scan, &Square, &[5, 7], &[1, -1], &[1, 0, 0, 0]);
+        let two = Two::load(rt.alloc())?;
+        let problem = two.problem(&Square);
+        let best = weigh(&problem, &proposal(&[5, 7], &[1, -1], &[1, 0, 0, 0]));
         assert_eq!(rt; best, told(6, 6));
-        let flat = weigh(&settings, &scan, &Square, &[6, 6], &[2, -2], &[1, 0, 0, 0]);
+        let flat = weigh(&problem, &proposal(&[6, 6], &[2, -2], &[1, 0, 0, 0]));
         assert_eq!(rt; flat, told(8, -12));
         let absolute = Absolute::new(3)?;
-        let readings = weigh(
-            &settings,
-            &scan,
-            &absolute,
-            &[4, 8],
-            &[1, -1],
-            &[1, 0, 0, 0],
-        );
+        let problem = two.problem(&absolute);
+        let readings = weigh(&problem, &proposal(&[4, 8], &[1, -1], &[1, 0, 0, 0]));
         assert_eq!(rt; readings, told(8, 8));
         Ok(())
     }
 
     #[test]
     fn a_caller_is_told_the_distance(rt: HostRuntime) -> Result<(), Fail> {
-        let settings = Settings::new(2, 1, 0, 10, 1, 0)?;
-        let scan = two_rays(rt.alloc(), &settings)?;
-        let none = distance_told(&settings, &scan, &Square, &[4, 8], &[0, 0], &[0, 0, 0, 0]);
+        let two = Two::load(rt.alloc())?;
+        let problem = two.problem(&Square);
+        let none = distance_told(&problem, &proposal(&[4, 8], &[0, 0], &[0, 0, 0, 0]));
         assert_eq!(rt; none, Ok(8));
-        let best = distance_told(&settings, &scan, &Square, &[5, 7], &[1, -1], &[1, 0, 0, 0]);
+        let best = distance_told(&problem, &proposal(&[5, 7], &[1, -1], &[1, 0, 0, 0]));
         assert_eq!(rt; best, Ok(0));
-        let dense = distance_told(&settings, &scan, &Square, &[5, 11], &[0, 0], &[0, 0, 0, 0]);
+        let dense = distance_told(&problem, &proposal(&[5, 11], &[0, 0], &[0, 0, 0, 0]));
         assert_eq!(rt; dense, Err(Refusal::Pixel(1)));
         Ok(())
     }
 
     #[test]
     fn two_pixels_are_refused(rt: HostRuntime) -> Result<(), Fail> {
-        let settings = Settings::new(2, 1, 0, 10, 1, 0)?;
-        let scan = two_rays(rt.alloc(), &settings)?;
-        let slope = weigh(&settings, &scan, &Square, &[5, 7], &[0, 0], &[0, 1, 0, 0]);
+        let two = Two::load(rt.alloc())?;
+        let problem = two.problem(&Square);
+        let slope = weigh(&problem, &proposal(&[5, 7], &[0, 0], &[0, 1, 0, 0]));
         assert_eq!(rt; slope, Err(Refusal::Slope(1)));
-        let number = weigh(
-            &settings,
-            &scan,
-            &Square,
-            &[5, 7],
-            &[0, 4_194_305],
-            &[0, 0, 0, 0],
-        );
+        let number = weigh(&problem, &proposal(&[5, 7], &[0, 4_194_305], &[0, 0, 0, 0]));
         assert_eq!(rt; number, Err(Refusal::RayNumber(1)));
-        let largest = weigh(
-            &settings,
-            &scan,
-            &Square,
-            &[5, 7],
-            &[0, 4_194_304],
-            &[0, 0, 0, 0],
-        );
+        let largest = weigh(&problem, &proposal(&[5, 7], &[0, 4_194_304], &[0, 0, 0, 0]));
         assert_eq!(rt; largest, told(6, -17_592_253_153_280));
         Ok(())
     }
 
     #[test]
     fn a_stored_scan_answers_what_was_loaded(rt: HostRuntime) -> Result<(), Fail> {
-        let settings = Settings::new(2, 1, 0, 10, 1, 0)?;
-        let scan = two_rays(rt.alloc(), &settings)?;
+        let scan = Two::load(rt.alloc())?.scan;
         assert_eq!(rt; scan.pixels(), 2);
         assert_eq!(rt; scan.rays(), 2);
         assert_eq!(rt; scan.entries(1), 1);
@@ -134,8 +140,7 @@ mod tests {
 
     #[test]
     fn a_refused_load_changes_nothing(rt: HostRuntime) -> Result<(), Fail> {
-        let settings = Settings::new(2, 1, 0, 10, 1, 0)?;
-        let mut scan = two_rays(rt.alloc(), &settings)?;
+        let mut scan = Two::load(rt.alloc())?.scan;
         let refused = scan.load(
             rt.alloc(),
             &Table {

@@ -1,8 +1,8 @@
-pub mod Fitting
+pub mod Adding
+pub mod Accepting
 pub mod Meaning
-pub mod Places
-pub mod Sizes
 pub mod Rays
-pub mod Differences
-pub mod Costs
+pub mod Beside
 pub mod Pulls
+pub mod Products
+pub mod Chains

@@ -1,3 +1,5 @@
 pub mod Judging
 pub mod Sizes
-pub mod Loops
+pub mod Neighbours
+pub mod Adding
+pub mod Projecting

@@ -2,8 +2,12 @@
 #![tactic(auto)]
 
 mod bound;
+mod fitting;
 pub mod limits;
+mod neighbours;
 mod numbers;
 mod objective;
+mod projection;
+mod sums;
 pub mod verdict;
 pub mod weigh;

@@ -6,7 +6,7 @@ pub(crate) fn number_at(numbers: &[i32], i: usize) -> i64
     requires { i < length numbers.now }
     ensures { result ≡ at numbers.now i }
 {
-    numbers[i] as i64
+    i64::from(numbers[i])
 }
 
 // A product that is known to fit.
@@ -15,7 +15,7 @@ pub(crate) fn scaled(factor: u32, number: i64) -> i64
     ensures value { result ≡ pos factor *ℤ number }
     ensures size { unsigned_abs result ≡ factor * unsigned_abs number }
 {
-    factor as i64 * number
+    i64::from(factor) * number
 }
 
 // Adds to a place of a list a number that is known to fit there.
@@ -24,5 +24,5 @@ pub(crate) fn add_at(w: &mut [i64], j: usize, x: i64)
     requires fits { unsigned_abs (at w.old j +ℤ x) < 2 ^ 63 }
     ensures { w.new ≡ slice_set w.old j (at w.old j +ℤ x) }
 {
-    w[j] = w[j] + x;
+    w[j] += x;
 }

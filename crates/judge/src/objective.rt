@@ -1,100 +1,104 @@
-ghost use Rattle.std.specs.Prelude.{◌≡◌, ℕ, ◌+◌, ◌*◌, ◌^◌, ◌<◌, ◌≤◌, length, pos, unsigned_abs};
-ghost use Rattle.problem.specs.Setting.{pixel_count};
+ghost use Rattle.std.specs.Prelude.{◌≡◌, ◌^◌, ◌<◌, ◌≤◌, length, pos, unsigned_abs};
+ghost use Rattle.std.specs.Option.{ForSome};
 ghost use Rattle.problem.specs.Scans.{ray_at};
-ghost use Rattle.problem.specs.Objective.{ray_sum, residual as residual_of, data_cost, right_difference, down_difference, total_variation, objective as objective_of, posed};
-ghost use Rattle.judge.specs.Sizes.{Dense};
+ghost use Rattle.problem.specs.Objective.{posed, ray_term, ray_sum, residual, ray_cost, data_cost, roughness_at, total_variation, objective};
+ghost use Rattle.judge.specs.Neighbours.{step_to};
 
+use crate::fitting::Fitting;
+use crate::neighbours::{below, right_of};
+use crate::numbers::scaled;
+use crate::sums::total;
 use problem::misfit::Misfit;
 use problem::scan::Scan;
-use problem::settings::Settings;
 
-// The sum of weight × pixel along a ray.
-fn ray_sum<S: Scan>(scan: &S, ray: usize, image: &[u16]) -> u64
-    requires { (length image.now ≡ (S.Scan.meaning scan.now).pixels) × (Dense image.now) }
-    ensures value { pos result ≡ ray_sum image.now (ray_at (S.Scan.meaning scan.now) ray) }
-    ensures size { result ≤ 4190208 }
-{
-    let mut sum: u64 = 0;
-    for k in 0..scan.entries(ray) {
-        if let Some((pixel, weight)) = scan.entry(ray, k) {
-            sum += weight as u64 * image[pixel] as u64;
+impl<'a, S: Scan, M: Misfit> Fitting<'a, S, M> {
+    // Weight × pixel at the k-th entry of a ray, 0 where there is none.
+    #[tactic(auto, using(algebra::proofs::Words::same_bits, crate::proofs::Rays::entry_inside, crate::proofs::Rays::weight_low, crate::proofs::Rays::ray_term_is, crate::proofs::Rays::ray_term_past))]
+    fn ray_term(&self, ray: usize, k: usize) -> i64
+        ensures value { result ≡ ray_term self.now.image.now (ray_at (S.Scan.meaning self.now.scan.now) ray) k }
+        ensures size { unsigned_abs result ≤ 4190208 }
+    {
+        match self.scan.entry(ray, k) {
+            Some((pixel, weight)) => scaled(weight, i64::from(self.image[pixel])),
+            None => 0,
         }
     }
-    sum
-}
 
-// The ray's sum less its reading.
-fn residual<S: Scan>(scan: &S, ray: usize, image: &[u16]) -> i64
-    requires { (length image.now ≡ (S.Scan.meaning scan.now).pixels) × (Dense image.now) }
-    ensures value { result ≡ residual_of 1 image.now (ray_at (S.Scan.meaning scan.now) ray) }
-    ensures size { unsigned_abs result ≤ 4194304 }
-{
-    ray_sum(scan, ray, image) as i64 - scan.reading(ray) as i64
-}
-
-// The cost of all rays.
-fn data_cost<S: Scan, M: Misfit>(scan: &S, misfit: &M, image: &[u16]) -> i64
-    requires { (length image.now ≡ (S.Scan.meaning scan.now).pixels) × (Dense image.now) }
-    ensures value { result ≡ data_cost (M.Misfit.meaning misfit.now) (S.Scan.meaning scan.now) 1 image.now }
-    ensures size { unsigned_abs result ≤ 2 ^ 56 }
-{
-    let mut total: i64 = 0;
-    for ray in 0..scan.rays() {
-        total += misfit.cost(residual(scan, ray, image));
+    // The sum of weight × pixel along a ray.
+    fn ray_sum(&self, ray: usize) -> i64
+        ensures value { result ≡ ray_sum self.now.image.now (ray_at (S.Scan.meaning self.now.scan.now) ray) }
+        ensures size { unsigned_abs result ≤ 4190208 }
+    {
+        total(self.scan.entries(ray), |k| self.ray_term(ray, k))
     }
-    total
-}
 
-// The size of the right difference of a pixel.
-fn right_step(settings: &Settings, image: &[u16], j: usize) -> u64
-    requires { (length image.now ≡ pixel_count settings.now) × ((Dense image.now) × (j < length image.now)) }
-    ensures value { result ≡ unsigned_abs (right_difference settings.now image.now j) }
-    ensures size { result ≤ 1023 }
-{
-    if j % settings.columns + 1 < settings.columns {
-        image[j].abs_diff(image[j + 1]) as u64
-    } else {
-        0
+    // The ray's sum less its reading.
+    #[tactic(auto, using(algebra::proofs::Words::same_bits, crate::proofs::Rays::residual_low), unfolding(problem::specs::Objective::residual))]
+    fn residual(&self, ray: usize) -> i64
+        ensures value { result ≡ residual 1 self.now.image.now (ray_at (S.Scan.meaning self.now.scan.now) ray) }
+        ensures size { unsigned_abs result ≤ 4194304 }
+    {
+        self.ray_sum(ray) - i64::from(self.scan.reading(ray))
     }
-}
 
-// The size of the down difference of a pixel.
-fn down_step(settings: &Settings, image: &[u16], j: usize) -> u64
-    requires { (length image.now ≡ pixel_count settings.now) × ((Dense image.now) × (j < length image.now)) }
-    ensures value { result ≡ unsigned_abs (down_difference settings.now image.now j) }
-    ensures size { result ≤ 1023 }
-{
-    if j / settings.columns + 1 < settings.rows {
-        image[j].abs_diff(image[j + settings.columns]) as u64
-    } else {
-        0
+    // The cost of a ray.
+    #[tactic(auto, using(algebra::proofs::Words::same_bits), unfolding(problem::specs::Objective::ray_cost))]
+    fn cost(&self, ray: usize) -> i64
+        ensures value { result ≡ ray_cost (M.Misfit.meaning self.now.misfit.now) (S.Scan.meaning self.now.scan.now) 1 self.now.image.now ray }
+        ensures size { unsigned_abs result ≤ 2 ^ 44 }
+    {
+        self.misfit.cost(self.residual(ray))
     }
-}
 
-// The roughness of the image.
-fn total_variation(settings: &Settings, image: &[u16]) -> u64
-    requires { (length image.now ≡ pixel_count settings.now) × (Dense image.now) }
-    ensures value { pos result ≡ total_variation settings.now image.now }
-    ensures size { result ≤ 4713984 }
-{
-    let mut total: u64 = 0;
-    for j in 0..image.len() {
-        total += right_step(settings, image, j) + down_step(settings, image, j);
+    // The cost of all rays.
+    #[tactic(auto, using(crate::proofs::Adding::sum_is, crate::proofs::Adding::low_over_rays), unfolding(problem::specs::Objective::data_cost))]
+    fn data_cost(&self) -> i64
+        ensures value { result ≡ data_cost (M.Misfit.meaning self.now.misfit.now) (S.Scan.meaning self.now.scan.now) 1 self.now.image.now }
+        ensures size { unsigned_abs result ≤ 2 ^ 56 }
+    {
+        total(self.scan.rays(), |ray| self.cost(ray))
     }
-    total
-}
 
-// Twice the primal value of an image whose length and pixels fit.
-pub(crate) fn objective<S: Scan, M: Misfit>(
-    settings: &Settings,
-    scan: &S,
-    misfit: &M,
-    image: &[u16],
-) -> i64
-    requires { (length image.now ≡ (S.Scan.meaning scan.now).pixels) × ((length image.now ≡ pixel_count settings.now) × (Dense image.now)) }
-    ensures value { result ≡ objective_of (posed settings.now (S.Scan.meaning scan.now) (M.Misfit.meaning misfit.now)) image.now }
-    ensures size { unsigned_abs result ≤ 2 ^ 57 }
-{
-    let rough = 2 * settings.strength as u64 * total_variation(settings, image);
-    data_cost(scan, misfit, image) + rough as i64
+    // The size of the difference between pixel j and a neighbour, 0 where there is none.
+    fn step(&self, j: usize, neighbour: Option<usize>) -> i64
+        requires here { j < length self.now.image.now }
+        requires there { ForSome neighbour (λ k. k < length self.now.image.now) }
+        ensures value { result ≡ step_to self.now.image.now j neighbour }
+        ensures size { unsigned_abs result ≤ 1023 }
+    {
+        match neighbour {
+            Some(k) => i64::from(self.image[j].abs_diff(self.image[k])),
+            None => 0,
+        }
+    }
+
+    // The sizes of the two differences of a pixel.
+    #[tactic(auto, using(std::proofs::lemmas::Int::ints, crate::proofs::Beside::step_right, crate::proofs::Beside::step_down), unfolding(problem::specs::Objective::roughness_at))]
+    fn roughness(&self, j: usize) -> i64
+        requires { j < length self.now.image.now }
+        ensures value { result ≡ roughness_at self.now.settings.now self.now.image.now j }
+        ensures size { unsigned_abs result ≤ 2046 }
+    {
+        let right = self.step(j, right_of(self.settings, j));
+        let down = self.step(j, below(self.settings, j));
+        right + down
+    }
+
+    // The roughness of the image.
+    #[tactic(auto, using(crate::proofs::Adding::sum_is, crate::proofs::Adding::steps_over_pixels), unfolding(problem::specs::Objective::total_variation))]
+    fn total_variation(&self) -> i64
+        ensures value { result ≡ total_variation self.now.settings.now self.now.image.now }
+        ensures size { unsigned_abs result ≤ 4713984 }
+    {
+        total(self.image.len(), |j| self.roughness(j))
+    }
+
+    // Twice the primal value of the image.
+    #[tactic(auto, using(algebra::proofs::Integers::lin, algebra::proofs::Words::same_bits, crate::proofs::Products::strong_low), unfolding(problem::specs::Objective::objective_at))]
+    pub(crate) fn objective(&self) -> i64
+        ensures value { result ≡ objective (posed self.now.settings.now (S.Scan.meaning self.now.scan.now) (M.Misfit.meaning self.now.misfit.now)) self.now.image.now }
+        ensures size { unsigned_abs result ≤ 2 ^ 57 }
+    {
+        self.data_cost() + scaled(2 * self.settings.strength, self.total_variation())
+    }
 }

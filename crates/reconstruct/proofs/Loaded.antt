@@ -1,5 +1,5 @@
 -- The two tables of the program have no fault, and mean the scans of the worked examples. Assumes nothing.
-use Rattle.std.proofs.Common.{◌≡◌, ℕ, ◌*◌, List, [], ◌∷◌, None, Option, unwrap_or, ap, ◌∙◌}
+use Rattle.std.proofs.Common.{◌≡◌, ℕ, ◌*◌, List, [], ◌∷◌, None, Ok, Err, Result, MatchResult, sym, subst, ◌∙◌}
 use Rattle.refusals.specs.declared.Refusal.{Refusal}
 use Rattle.refusals.specs.declared.Refusal.TheVariants.{OutOfMemory}
 use Rattle.problem.specs.Setting.{Holds, pixel_count}
@@ -7,19 +7,18 @@ use Rattle.problem.specs.Scans.{ScanMeaning}
 use Rattle.problem.specs.declared.settings.Settings.{Settings}
 use Rattle.scans.specs.Choosing.{first_some, largest}
 use Rattle.scans.specs.Loading.{load_fault, starts_fault, ray_fault, entries_fault, readings_fault}
-use Rattle.scans.specs.Tables.{table_meaning, no_rays}
+use Rattle.scans.specs.Tables.{table_meaning}
 use Rattle.scans.specs.Stored.{stored_meaning}
-use Rattle.scans.specs.declared.stored.StoredScan.{StoredScan}
 use Rattle.examples.specs.Slices.{two_rays, six_rays}
+use Rattle.reconstruct.specs.declared.slices.Slice.{Slice}
 
--- a scan that is made from settings has their number of pixels
-pub pixels_of : (w h lowest highest strength tolerance : ℕ) (g : Settings) (s : StoredScan) → Holds w h lowest highest strength tolerance g → stored_meaning s ≡ no_rays (pixel_count g) → s.pixels ≡ w * h
-pixels_of w h lowest highest strength tolerance g s k e =
-    ap (λ (m : ScanMeaning). m.pixels) e ∙ rw (k.columns_is, k.rows_is)
+pub pixels_of : (w h lowest highest strength tolerance : ℕ) (g : Settings) → Holds w h lowest highest strength tolerance g → pixel_count g ≡ w * h
+pixels_of w h lowest highest strength tolerance g k = rw (k.columns_is, k.rows_is)
 
--- a fault that is not there is want of memory
-pub no_fault : (fault : Option Refusal) (e : Refusal) → fault ≡ None → e ≡ unwrap_or fault OutOfMemory → e ≡ OutOfMemory
-no_fault fault e n q = q ∙ rw n
+-- what is known of the settings and of the table's meaning is known of the slice
+pub loaded : (P : Settings → Type 0) (g : Settings) (m n : ScanMeaning) (r : Result Slice Refusal) → P g → m ≡ n → MatchResult r (λ s. (s.settings ≡ g) × (stored_meaning s.scan ≡ m)) (λ e. e ≡ OutOfMemory) → MatchResult r (λ s. P s.settings × (stored_meaning s.scan ≡ n)) (λ e. e ≡ OutOfMemory)
+loaded P g m n (Ok s) p e h = (subst P (sym h.0) p, h.1 ∙ e)
+loaded P g m n (Err x) p e h = h
 
 module _ (n : ℕ) (is : n ≡ 2) where
   pub two_loads : load_fault n (0 ∷ 1 ∷ 2 ∷ []) ((0, 1) ∷ (1, 1) ∷ []) (4 ∷ 8 ∷ []) ≡ None

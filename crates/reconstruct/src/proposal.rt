@@ -1,56 +1,72 @@
+use judge::verdict::Verdict;
 use judge::weigh::weigh;
 use problem::misfit::Misfit;
+use problem::posed::Problem;
+use problem::proposal::Proposal;
 use problem::scan::Scan;
-use problem::settings::Settings;
 use refusals::Refusal;
-use std::io;
+use std::{fmt, io};
 
-// An image with its dual numbers, under a name for the person who reads.
+// A proposal under a name for the person who reads.
 #[derive(Clone, Copy)]
-pub(crate) struct Proposal<'a> {
+pub(crate) struct Named<'a> {
     pub name: &'a str,
-    pub image: &'a [u16],
-    pub ray_numbers: &'a [i32],
-    pub slopes: &'a [i32],
+    pub proposal: Proposal<'a>,
 }
 
-// Judges a proposal and prints one line of it.
-pub(crate) fn tell<S: Scan, M: Misfit>(
-    rt: &HostRuntime,
-    settings: &Settings,
-    scan: &S,
-    misfit: &M,
-    proposal: Proposal,
-) -> io::Result<()> {
-    let name = proposal.name;
-    match weigh(
-        settings,
-        scan,
-        misfit,
-        proposal.image,
-        proposal.ray_numbers,
-        proposal.slopes,
-    ) {
-        Ok(verdict) => {
-            let objective = verdict.objective;
-            let bound = verdict.bound;
-            let distance = verdict.gap();
-            println!(rt;
-                "  {name:<38} objective {objective:>4}, bound {bound:>4}, distance {distance:>4}"
-            )
+impl<'a> Named<'a> {
+    pub(crate) fn new(
+        name: &'a str,
+        image: &'a [u16],
+        ray_numbers: &'a [i32],
+        slopes: &'a [i32],
+    ) -> Named<'a> {
+        Named {
+            name,
+            proposal: Proposal {
+                image,
+                ray_numbers,
+                slopes,
+            },
         }
-        Err(refusal) => println!(rt; "  {name:<38} {refusal}"),
     }
 }
 
-// Prints one line of an answer that is only told where it is a refusal.
-pub(crate) fn tell_refusal(
+// What the judge tells of a proposal, in columns.
+#[derive(Drop)]
+struct Told(Verdict);
+
+impl fmt::Display for Told {
+    fn fmt<W: fmt::Write>(&self, f: &mut fmt::Formatter<W>) -> fmt::Result {
+        let Verdict { objective, bound } = self.0;
+        let distance = self.0.gap();
+        write!(
+            f,
+            "objective {objective:>4}, bound {bound:>4}, distance {distance:>4}"
+        )
+    }
+}
+
+// Judges proposals and prints one line of each.
+pub(crate) fn judge<S: Scan, M: Misfit>(
+    rt: &HostRuntime,
+    problem: &Problem<S, M>,
+    proposals: &[Named],
+) -> io::Result<()> {
+    for Named { name, proposal } in proposals {
+        tell(rt, name, weigh(problem, proposal).map(Told))?;
+    }
+    Ok(())
+}
+
+// Prints one line of an answer: what it tells, or why it is refused.
+pub(crate) fn tell<T: fmt::Display + Drop>(
     rt: &HostRuntime,
     name: &str,
-    answer: Result<(), Refusal>,
+    answer: Result<T, Refusal>,
 ) -> io::Result<()> {
     match answer {
-        Ok(()) => println!(rt; "  {name:<38} accepted"),
+        Ok(told) => println!(rt; "  {name:<38} {told}"),
         Err(refusal) => println!(rt; "  {name:<38} {refusal}"),
     }
 }

@@ -1,15 +1,13 @@
-use Rattle.std.proofs.Common.{◌∙◌}
-use Rattle.std.proofs.lemmas.Result.{err_from_is_err_and}
-use Rattle.reconstruct.proofs.Loaded.{pixels_of, no_fault, six_loads, six_means}
+use Rattle.problem.specs.Setting.{Holds}
+use Rattle.examples.specs.Slices.{six_rays}
+use Rattle.reconstruct.proofs.Loaded.{pixels_of, loaded, six_loads, six_means}
 use Rattle.reconstruct.proofs.slices.six_pixels.Goals as goal
 
-pub returns-in_err-load : goal.returns-in_err-load
-returns-in_err-load c =
-    let n = pixels_of 3 2 2 9 6 0 c.in_ok-settings.settings c.in_ok-scan.scan c.in_ok-settings.ensures.1 c.in_ok-scan.ensures in
-    let p = err_from_is_err_and c.from_residual-in_err-load.result c.from_residual-in_err-load.ensures.1 in
-    rw (p.1, p.2) (no_fault _ _ (six_loads _ n) c.in_err-load.ensures.0)
+pub load-requires : goal.load-requires
+load-requires c = six_loads _ (pixels_of 3 2 2 9 6 0 c.in_ok-settings.settings c.in_ok-settings.ensures.1)
 
 pub returns : goal.returns
 returns c =
-    let n = pixels_of 3 2 2 9 6 0 c.in_ok-settings.settings c.in_ok-scan.scan c.in_ok-settings.ensures.1 c.in_ok-scan.ensures in
-    (c.in_ok-settings.ensures.1, c.in_ok-load.ensures.1 ∙ six_means _ n)
+    let g = c.in_ok-settings.settings in
+    let holds = c.in_ok-settings.ensures.1 in
+    loaded (Holds 3 2 2 9 6 0) g _ six_rays c.load.result holds (six_means _ (pixels_of 3 2 2 9 6 0 g holds)) c.load.ensures

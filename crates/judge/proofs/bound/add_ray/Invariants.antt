@@ -1,8 +1,0 @@
-use Rattle.problem.specs.Scans.{ray_at}
-use Rattle.judge.proofs.Pulls.{Pulled, Lighter}
-use Rattle.judge.proofs.bound.add_ray.Given as goal
-
-abbrev pub invariant-loop-k : goal.invariant-loop-k
-invariant-loop-k g l =
-    let s = g.S.Scan.meaning l.scan in
-    Pulled l.ray_number (ray_at s l.ray) l.k l.initial.w l.w × Lighter s l.ray l.k l.w

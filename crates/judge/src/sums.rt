@@ -1,0 +1,17 @@
+ghost use Rattle.std.specs.Prelude.{ℕ, ◌^◌, ◌<◌, ◌≤◌};
+ghost use Rattle.judge.specs.Adding.{NoneLarger, SumOf};
+
+// The sum of the terms 0, 1, .., count - 1.
+#[tactic(auto, using(crate::proofs::Adding::sum_fits, crate::proofs::Adding::sum_added))]
+pub(crate) fn total<F: Fn(usize) -> i64>(count: usize, term: F) -> i64
+    requires few { count ≤ 4096 }
+    requires there { (i : ℕ) → i < count → F.pre term i }
+    requires fits { NoneLarger (F.post term) count (2 ^ 50) }
+    ensures { SumOf (F.post term) count count result }
+{
+    let mut sum = 0;
+    for i in 0..count {
+        sum += term(i);
+    }
+    sum
+}
