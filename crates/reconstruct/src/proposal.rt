@@ -1,3 +1,5 @@
+ghost use Rattle.std.specs.Prelude.{◌≡◌};
+
 use judge::verdict::Verdict;
 use judge::weigh::weigh;
 use problem::misfit::Misfit;
@@ -20,7 +22,11 @@ impl<'a> Named<'a> {
         image: &'a [u16],
         ray_numbers: &'a [i32],
         slopes: &'a [i32],
-    ) -> Named<'a> {
+    ) -> Named<'a>
+        ensures image { result.proposal.image.now ≡ image.now }
+        ensures ray_numbers { result.proposal.ray_numbers.now ≡ ray_numbers.now }
+        ensures slopes { result.proposal.slopes.now ≡ slopes.now }
+    {
         Named {
             name,
             proposal: Proposal {

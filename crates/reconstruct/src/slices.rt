@@ -1,8 +1,7 @@
 ghost use Rattle.std.specs.Prelude.{◌≡◌, None, MatchResult};
 ghost use Rattle.refusals.specs.declared.Refusal.TheVariants.{OutOfMemory};
 ghost use Rattle.problem.specs.Setting.{Holds, pixel_count};
-ghost use Rattle.scans.specs.Loading.{load_fault};
-ghost use Rattle.scans.specs.Tables.{table_meaning};
+ghost use Rattle.scans.specs.Handed.{table_fault, scan_of};
 ghost use Rattle.scans.specs.Stored.{stored_meaning};
 ghost use Rattle.examples.specs.Slices.{two_rays, six_rays};
 
@@ -13,7 +12,7 @@ use scans::stored::StoredScan;
 use scans::table::Table;
 use std::alloc::Global;
 
-// A slice with its scan.
+// A slice with its scan. (The tests of `examples` have one of their own: a public type for both would want contracts and edits.)
 #[derive(Drop)]
 pub(crate) struct Slice {
     pub settings: Settings,
@@ -23,8 +22,8 @@ pub(crate) struct Slice {
 impl Slice {
     // A slice of these settings, crossed by the rays of a table without a fault.
     fn load(heap: Global, settings: Settings, table: &Table) -> Result<Slice, Refusal>
-        requires { load_fault (pixel_count settings) table.now.starts.now table.now.entries.now table.now.readings.now ≡ None }
-        ensures { MatchResult result (λ s. (s.settings ≡ settings) × (stored_meaning s.scan ≡ table_meaning (pixel_count settings) table.now.starts.now table.now.entries.now table.now.readings.now)) (λ e. e ≡ OutOfMemory) }
+        requires { table_fault (pixel_count settings) table.now ≡ None }
+        ensures { MatchResult result (λ s. (s.settings ≡ settings) × (stored_meaning s.scan ≡ scan_of (pixel_count settings) table.now)) (λ e. e ≡ OutOfMemory) }
     {
         let mut scan = StoredScan::new(heap, &settings)?;
         scan.load(heap, table)?;

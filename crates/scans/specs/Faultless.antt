@@ -1,11 +1,12 @@
 -- What a table of rays with no fault keeps to. Assumes nothing.
-use Rattle.std.proofs.Common.{◌≡◌, ℕ, zero, suc, ◌+◌, ◌-◌, ◌<◌, ◌≤◌, Bool, true, false, cond, eqb, ltb, List, length, Some, None, Option, refl, ap, add-one, arith, rules, tests, length-drop, length-take}
+use Rattle.std.proofs.Common.{◌≡◌, ℕ, zero, suc, ◌+◌, ◌-◌, ◌<◌, ◌≤◌, Bool, true, false, cond, eqb, ltb, List, [], ◌∷◌, length, is_some, Some, None, Option, refl, ap, add-one, arith, rules, tests, length-drop, length-take}
 use Rattle.std.specs.Option.{option_map, IsNone}
 use Rattle.std.proofs.lemmas.Bool.{eqb-true, ltb-false}
 use Rattle.problem.specs.Search.{first_outside, before_at}
 use Rattle.refusals.specs.declared.Refusal.TheVariants.{Rays, Starts, Entry, Reading}
 use Rattle.problem.proofs.Searching.{admitted_from_none, first_none}
 use Rattle.scans.specs.Loading.{start_of, ray_count, ray_entries, start_within, entry_within, reading_within, starts_fault, ray_fault, entries_fault, readings_fault, load_fault}
+use Rattle.scans.specs.Choosing.{first_some}
 use Rattle.scans.specs.Tables.{largest_count}
 use Rattle.scans.specs.Firsts.{both_none, mapped_none, none_before, none_from_unset, largest_le}
 
@@ -24,6 +25,9 @@ module _ (rays entries : ℕ) (starts : List ℕ) (none : starts_fault rays entr
   unfolding starts_fault
   admitted i lt =
       admitted_from_none (start_within rays entries) 0 0 None starts (first_none (eqb (length starts) (rays + 1)) _ 0 none).1 i (omega (arith, starts_length))
+
+  pub start_low : (i : ℕ) → i < rays + 1 → start_of starts i ≤ 65536
+  start_low i lt = let h = admitted i lt in search (rules, tests)
 
   follows_last : (i : ℕ) → i < rays → (start_of starts i ≤ start_of starts (i + 1)) × (start_of starts (i + 1) - start_of starts i ≤ 128)
   follows_last i lt =
@@ -59,11 +63,16 @@ pub record Faultless (pixels : ℕ) (starts : List ℕ) (entries : List (ℕ × 
   pub no_entry : (i : ℕ) → i < length readings → first_outside (entry_within pixels) (ray_entries starts entries i) ≡ None
   pub no_reading : first_outside reading_within readings ≡ None
 
+-- a table of no rays has no fault
+pub none_checked : (pixels : ℕ) (starts : List ℕ) (entries : List (ℕ × ℕ)) (readings : List ℕ) → starts ≡ 0 ∷ [] → entries ≡ [] → readings ≡ [] → is_some (load_fault pixels starts entries readings) ≡ false
+unfolding starts_fault entries_fault readings_fault first_some
+none_checked pixels starts entries readings a b c = rw (a, b, c)
+
 module _ (pixels : ℕ) (starts : List ℕ) (entries : List (ℕ × ℕ)) (readings : List ℕ) where
-  pub faultless : IsNone (load_fault pixels starts entries readings) → Faultless pixels starts entries readings
+  pub faultless : load_fault pixels starts entries readings ≡ None → Faultless pixels starts entries readings
   unfolding entries_fault ray_fault readings_fault
   faultless e =
-      let a = other_none (ltb 4096 (length readings)) Rays _ (none_from_unset (load_fault pixels starts entries readings) e) in
+      let a = other_none (ltb 4096 (length readings)) Rays _ e in
       let b = both_none (option_map Starts (starts_fault (length readings) (length entries) starts)) _ a.1 in
       let c = both_none (option_map Entry (entries_fault (length readings) pixels starts entries)) (option_map Reading (readings_fault readings)) b.1 in
       record {
@@ -72,3 +81,6 @@ module _ (pixels : ℕ) (starts : List ℕ) (entries : List (ℕ × ℕ)) (readi
         no_entry = λ i lt. mapped_none (λ k. start_of starts i + k) _ (none_before (ray_fault pixels starts entries) (length readings) i (mapped_none Entry _ c.0) lt);
         no_reading = mapped_none Reading _ c.1;
       }
+
+  pub faultless_since : IsNone (load_fault pixels starts entries readings) → Faultless pixels starts entries readings
+  faultless_since e = faultless (none_from_unset (load_fault pixels starts entries readings) e)

@@ -1,5 +1,5 @@
 -- Laws of answers that may be missing, of the first of them and of the largest value over an index. Assumes nothing.
-use Rattle.std.proofs.Common.{◌≡◌, ℕ, zero, suc, ◌<◌, ◌≤◌, false, is_some, Some, None, Option, refl, ap, ◌∙◌, inl, inr, arith}
+use Rattle.std.proofs.Common.{◌≡◌, ℕ, zero, suc, ◌+◌, ◌<◌, ◌≤◌, max, false, is_some, Some, None, Option, refl, ap, ◌∙◌, inl, inr, add-one, arith}
 use Rattle.std.specs.Option.{option_or, option_map}
 use Rattle.std.proofs.lemmas.Bool.{cases_eq}
 use Rattle.scans.specs.Choosing.{first_some, largest}
@@ -18,6 +18,10 @@ mapped_none f None e = refl
 mapped_none f (Some x) e = absurd cc
 
 module _ (f : ℕ → Option ℕ) where
+  pub first_some_start : first_some 0 f ≡ None
+  unfolding first_some
+  first_some_start = refl
+
   pub none_before : (n i : ℕ) → first_some n f ≡ None → i < n → f i ≡ None
   unfolding first_some
   none_before zero i e lt = absurd (omega arith)
@@ -29,6 +33,14 @@ module _ (f : ℕ → Option ℕ) where
       ]
 
 module _ (f : ℕ → ℕ) where
+  pub largest_start : largest 0 f ≡ 0
+  unfolding largest
+  largest_start = refl
+
+  pub largest_more : (i : ℕ) → largest (i + 1) f ≡ max (largest i f) (f i)
+  unfolding largest
+  largest_more i = rw add-one
+
   pub le_largest : (n i : ℕ) → i < n → f i ≤ largest n f
   unfolding largest
   le_largest zero i lt = absurd (omega arith)

@@ -6,3 +6,4 @@ pub mod Faultless
 pub mod Crossings
 pub mod Laws
 pub mod Stored
+pub mod Handed

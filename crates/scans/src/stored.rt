@@ -5,7 +5,8 @@ ghost use Rattle.scans.specs.Tables.{largest_count, largest_reading};
 pub mod loading;
 pub mod questions;
 
-// The rays of a slice in compressed rows: the entries of ray i are those from starts(i) up to starts(i + 1).
+// The rays of a slice in compressed rows: the entries of ray i are those from starts(i) up to starts(i + 1). So a table
+// hands them over, and so a ray is found in constant time.
 #[derive(Drop)]
 pub struct StoredScan {
     pixels: usize,

@@ -1,7 +1,8 @@
 ghost use Rattle.std.specs.Prelude.{◌≡◌, ◌≤◌, length, None};
 ghost use Rattle.std.specs.Option.{option_map};
 ghost use Rattle.std.specs.Result.{result_err};
-ghost use Rattle.scans.specs.Loading.{starts_fault, entries_fault, readings_fault, load_fault};
+ghost use Rattle.scans.specs.Loading.{starts_fault, entries_fault, readings_fault};
+ghost use Rattle.scans.specs.Handed.{table_fault};
 
 use crate::limits::{EntryLimits, ReadingLimits, StartLimits};
 use problem::limits::first_outside;
@@ -20,7 +21,7 @@ impl Table<'_> {
     // Whether the table can be loaded over so many pixels; else the first fault: of the number of rays, then of
     // starts, entries and readings.
     pub fn check(&self, pixels: usize) -> Result<(), Refusal>
-        ensures { result_err result ≡ load_fault pixels self.now.starts.now self.now.entries.now self.now.readings.now }
+        ensures { result_err result ≡ table_fault pixels self.now }
     {
         if self.readings.len() > 4096 {
             return Err(Refusal::Rays);
@@ -44,7 +45,9 @@ impl Table<'_> {
             rays,
             entries: self.entries.len(),
         };
-        first_outside(self.starts, &limits).map_or(Ok(()), |place| Err(Refusal::Starts(place)))
+        first_outside(self.starts, &limits)
+            .map(Refusal::Starts)
+            .map_or(Ok(()), Err)
     }
 
     // The first wrong entry, ray by ray.
@@ -67,9 +70,8 @@ impl Table<'_> {
     fn check_readings(&self) -> Result<(), Refusal>
         ensures { result_err result ≡ option_map Refusal.Reading (readings_fault self.now.readings.now) }
     {
-        first_outside(self.readings, &ReadingLimits).map_or(
-            Ok(()),
-            |ray| Err(Refusal::Reading(ray)),
-        )
+        first_outside(self.readings, &ReadingLimits)
+            .map(Refusal::Reading)
+            .map_or(Ok(()), Err)
     }
 }

@@ -1,8 +1,9 @@
 ghost use Rattle.std.specs.Prelude.{◌≡◌, ◌≤◌, length, None, MatchResult};
 ghost use Rattle.std.specs.Option.{unwrap_or};
 ghost use Rattle.problem.specs.Setting.{pixel_count};
-ghost use Rattle.scans.specs.Loading.{starts_fault, load_fault};
-ghost use Rattle.scans.specs.Tables.{table_meaning, no_rays, largest_count, largest_reading};
+ghost use Rattle.scans.specs.Loading.{starts_fault};
+ghost use Rattle.scans.specs.Tables.{no_rays, largest_count, largest_reading};
+ghost use Rattle.scans.specs.Handed.{table_fault, scan_of};
 ghost use Rattle.scans.specs.Stored.{stored_meaning};
 
 use super::StoredScan;
@@ -52,7 +53,7 @@ impl StoredScan {
     // Holds these rays in place of those that it had. Refuses a table with a fault, or for want of memory,
     // and then holds what it held.
     pub fn load(&mut self, heap: Global, table: &Table) -> Result<(), Refusal>
-        ensures { MatchResult result (λ _. (load_fault self.old.pixels table.now.starts.now table.now.entries.now table.now.readings.now ≡ None) × (stored_meaning self.new ≡ table_meaning self.old.pixels table.now.starts.now table.now.entries.now table.now.readings.now)) (λ e. (e ≡ unwrap_or (load_fault self.old.pixels table.now.starts.now table.now.entries.now table.now.readings.now) Refusal.OutOfMemory) × (self.new ≡ self.old)) }
+        ensures { MatchResult result (λ _. (table_fault self.old.pixels table.now ≡ None) × (stored_meaning self.new ≡ scan_of self.old.pixels table.now)) (λ e. (e ≡ unwrap_or (table_fault self.old.pixels table.now) Refusal.OutOfMemory) × (self.new ≡ self.old)) }
     {
         table.check(self.pixels)?;
         let starts = Vec::from_slice(heap, table.starts)?;
@@ -61,6 +62,7 @@ impl StoredScan {
         self.starts = starts;
         self.entries = entries;
         self.readings = readings;
+        // a ray has at most 128 entries: nothing is cut off
         self.ray_cap = 31 * largest_count(table) as u32;
         self.reading_cap = largest_reading(table.readings);
         Ok(())

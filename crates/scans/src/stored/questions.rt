@@ -48,6 +48,7 @@ impl Scan for StoredScan {
     }
 
     fn pixel_cap(&self) -> u32 {
+        // there are at most 4,096 rays: nothing is cut off
         31 * self.readings.len() as u32
     }
 
