@@ -1,7 +1,5 @@
 ghost use Rattle.std.specs.Prelude.{◌≡◌, ◌*◌, length, Ok, Err, IfOk, IfErr};
 ghost use Rattle.problem.specs.Setting.{pixel_count};
-ghost use Rattle.problem.specs.Objective.{posed};
-ghost use Rattle.problem.specs.Fitting.{proposed};
 ghost use Rattle.problem.specs.Posed.{problem_of, proposal_of};
 ghost use Rattle.judge.specs.Sizes.{Dense, Sized};
 ghost use Rattle.judge.specs.Judging.{judged, verdict_of};
@@ -12,25 +10,20 @@ use problem::misfit::Misfit;
 use problem::posed::Problem;
 use problem::proposal::Proposal;
 use problem::scan::Scan;
-use problem::settings::Settings;
 use refusals::Refusal;
 
 // A problem with a proposal that fits it: each list has its length, and each number is within its limits.
 #[derive(Drop)]
 pub(crate) struct Fitting<'a, S: Scan, M: Misfit> {
-    pub settings: &'a Settings,
-    pub scan: &'a S,
-    pub misfit: &'a M,
-    pub image: &'a [u16],
-    pub ray_numbers: &'a [i32],
-    pub slopes: &'a [i32],
-    ghost pixels: { pixel_count settings.now ≡ (S.Scan.meaning scan.now).pixels },
-    ghost full: { length image.now ≡ pixel_count settings.now },
-    ghost dense: { Dense image.now },
-    ghost numbered: { length ray_numbers.now ≡ length (S.Scan.meaning scan.now).rays },
-    ghost admitted: { Sized (M.Misfit.meaning misfit.now).end ray_numbers.now },
-    ghost sloped: { length slopes.now ≡ 2 * pixel_count settings.now },
-    ghost modest: { Sized 1048576 slopes.now },
+    pub problem: Problem<'a, S, M>,
+    pub proposal: Proposal<'a>,
+    ghost pixels: { pixel_count problem.settings.now ≡ (S.Scan.meaning problem.scan.now).pixels },
+    ghost full: { length proposal.image.now ≡ pixel_count problem.settings.now },
+    ghost dense: { Dense proposal.image.now },
+    ghost numbered: { length proposal.ray_numbers.now ≡ length (S.Scan.meaning problem.scan.now).rays },
+    ghost admitted: { Sized (M.Misfit.meaning problem.misfit.now).end proposal.ray_numbers.now },
+    ghost sloped: { length proposal.slopes.now ≡ 2 * pixel_count problem.settings.now },
+    ghost modest: { Sized 1048576 proposal.slopes.now },
 }
 
 impl<'a, S: Scan, M: Misfit> Fitting<'a, S, M> {
@@ -39,8 +32,8 @@ impl<'a, S: Scan, M: Misfit> Fitting<'a, S, M> {
         problem: &Problem<'a, S, M>,
         proposal: &Proposal<'a>,
     ) -> Result<Fitting<'a, S, M>, Refusal>
-        ensures problem { IfOk result (λ f. posed f.settings.now (S.Scan.meaning f.scan.now) (M.Misfit.meaning f.misfit.now) ≡ problem_of S.Scan.meaning M.Misfit.meaning problem.now) }
-        ensures proposal { IfOk result (λ f. proposed f.image.now f.ray_numbers.now f.slopes.now ≡ proposal_of proposal.now) }
+        ensures problem { IfOk result (λ f. f.problem ≡ problem.now) }
+        ensures proposal { IfOk result (λ f. f.proposal ≡ proposal.now) }
         ensures accepted { IfOk result (λ _. judged (problem_of S.Scan.meaning M.Misfit.meaning problem.now) (proposal_of proposal.now) ≡ Ok (verdict_of (problem_of S.Scan.meaning M.Misfit.meaning problem.now) (proposal_of proposal.now))) }
         ensures refused { IfErr result (λ e. judged (problem_of S.Scan.meaning M.Misfit.meaning problem.now) (proposal_of proposal.now) ≡ Err e) }
     {
@@ -48,6 +41,7 @@ impl<'a, S: Scan, M: Misfit> Fitting<'a, S, M> {
         if pixels != problem.scan.pixels() {
             return Err(Refusal::Pixels);
         }
+        // the place is which list, counted from 0, and no enum: each call that refuses a length has other lists
         if proposal.image.len() != pixels {
             return Err(Refusal::Length(0));
         }
@@ -58,23 +52,19 @@ impl<'a, S: Scan, M: Misfit> Fitting<'a, S, M> {
             return Err(Refusal::Length(2));
         }
         let settings = *problem.settings;
-        if let Some(place) = first_outside(proposal.image, &Densities { settings }) {
-            return Err(Refusal::Pixel(place));
-        }
+        first_outside(proposal.image, &Densities { settings })
+            .map(Refusal::Pixel)
+            .map_or(Ok(()), Err)?;
         let end = problem.misfit.end();
-        if let Some(place) = first_outside(proposal.ray_numbers, &RayNumbers { end }) {
-            return Err(Refusal::RayNumber(place));
-        }
-        if let Some(place) = first_outside(proposal.slopes, &Slopes { settings }) {
-            return Err(Refusal::Slope(place));
-        }
+        first_outside(proposal.ray_numbers, &RayNumbers { end })
+            .map(Refusal::RayNumber)
+            .map_or(Ok(()), Err)?;
+        first_outside(proposal.slopes, &Slopes { settings })
+            .map(Refusal::Slope)
+            .map_or(Ok(()), Err)?;
         Ok(Fitting {
-            settings: problem.settings,
-            scan: problem.scan,
-            misfit: problem.misfit,
-            image: proposal.image,
-            ray_numbers: proposal.ray_numbers,
-            slopes: proposal.slopes,
+            problem: *problem,
+            proposal: *proposal,
         })
     }
 }

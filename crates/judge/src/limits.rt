@@ -17,7 +17,7 @@ impl Limits<u16> for Densities {
     fn admits(&self, place: usize, before: Option<u16>, item: u16) -> bool
         ensures { result ≡ density_within self.now.settings place before item }
     {
-        self.settings.lowest <= item && item <= self.settings.highest
+        (self.settings.lowest..=self.settings.highest).contains(&item)
     }
 }
 

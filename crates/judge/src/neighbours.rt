@@ -4,6 +4,9 @@ ghost use Rattle.judge.specs.Neighbours.{pixel_right, pixel_below, pixel_left, p
 
 use problem::settings::Settings;
 
+// Four tests and four offsets; with `then` in place of `if` two of them leave a goal open. Each asks that j is a pixel: a type for
+// that would have to say of which settings, and be proved theirs at each call.
+
 // The pixel to the right of pixel j, if there is one.
 pub(crate) fn right_of(settings: &Settings, j: usize) -> Option<usize>
     requires { j < pixel_count settings.now }

@@ -9,6 +9,7 @@ pub(crate) fn total<F: Fn(usize) -> i64>(count: usize, term: F) -> i64
     requires fits { NoneLarger (F.post term) count (2 ^ 50) }
     ensures { SumOf (F.post term) count count result }
 {
+    // as `(0..count).map(term).sum()` three goals stay open: that it may be called, that it fits, and what it comes to
     let mut sum = 0;
     for i in 0..count {
         sum += term(i);

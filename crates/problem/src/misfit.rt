@@ -4,14 +4,14 @@ ghost use Rattle.problem.specs.Driving.{clip};
 
 // How dear a residual is: what a ray's sum is above its reading.
 pub trait Misfit {
-    // Which misfit it is, for the certificate.
+    // Which misfit it is, for the certificate: a number and no enum, since misfits are open.
     const CODE: u8;
 
     ghost CODE: { ℕ };
 
     ghost meaning: { Self → MisfitMeaning };
 
-    // Twice the cost of a residual.
+    // Twice the cost of a residual. Here and below, a question outside its ends is answered 0: callers are promised that.
     fn cost(&self, residual: i64) -> i64
         ensures { result ≡ cost_answer (meaning self.now) residual };
 

@@ -1,7 +1,8 @@
 ghost use Rattle.std.specs.Prelude.{◌≡◌, length};
 ghost use Rattle.problem.specs.Scans.{ScanMeaning, LawfulScan, ray_at, entry_at};
 
-// A table of rays over the pixels of a slice. Rays and entries are counted from 0.
+// A table of rays over the pixels of a slice. Rays and entries are counted from 0, and asked for one by one, since a
+// scan may compute them. What is not there has 0 entries and the reading 0: callers are promised that.
 pub trait Scan {
     ghost meaning: { Self → ScanMeaning };
 

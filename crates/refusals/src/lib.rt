@@ -31,7 +31,7 @@ pub enum Refusal {
 }
 
 impl Refusal {
-    // The refusal's number: 0 for want of memory, else 1 to 16.
+    // The refusal's number, as scripts read it: 0 for want of memory, else 1 to 16.
     pub fn number(&self) -> u8
         ensures { result ≡ number_of self.now }
     {
@@ -56,7 +56,7 @@ impl Refusal {
         }
     }
 
-    // Where the fault is, counted from 0; 0 where the refusal tells no place.
+    // Where the fault is, as scripts read it, counted from 0; 0 where the refusal tells no place.
     pub fn place(&self) -> usize
         ensures value { result ≡ place_of self.now }
         ensures compared { (e : Refusal) → ⟦<Refusal as PartialEq>⟧.eq e self.now ≡ same e self.now }

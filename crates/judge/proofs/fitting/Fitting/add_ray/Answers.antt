@@ -10,12 +10,12 @@ use Rattle.judge.proofs.fitting.Fitting.add_ray.Goals.{in-Some, in_default}
 pub loop-k-preserved : goal.loop-k-preserved
 loop-k-preserved g c =
     let f = c.args.self.now in
-    let s = g.S.Scan.meaning f.scan.now in
-    let l = g.met.S.Scan.lawful f.scan.now in
+    let s = g.S.Scan.meaning f.problem.scan.now in
+    let l = g.met.S.Scan.lawful f.problem.scan.now in
     let i = c.args.ray in
     let k = c.loop-k.k in
-    let p : ℤ = at f.ray_numbers.now i in
-    let small : nat_abs p ≤ 4194304 = omega (arith, f.admitted i, (g.met.M.Misfit.lawful f.misfit.now).end_low) in
+    let p : ℤ = at f.proposal.ray_numbers.now i in
+    let small : nat_abs p ≤ 4194304 = omega (arith, f.admitted i, (g.met.M.Misfit.lawful f.problem.misfit.now).end_low) in
     elim c.match-entry.branch [
       | in-Some w ↦
           let x = w.in-Some.pixel in

@@ -11,4 +11,4 @@ returns-clause-value g c =
     let f = c.args.self.now in
     let from_left : c.map.result ≡ option_map (λ i. 2 * i) c.left_of.result = search rules in
     let from_above : c.map-2.result ≡ option_map (λ i. 2 * i + 1) c.above.result = search rules in
-    grind (arith, adjoint_is, slope_left f.settings.now f.slopes.now c.args.j, slope_above f.settings.now f.slopes.now c.args.j)
+    grind (arith, adjoint_is, slope_left f.problem.settings.now f.proposal.slopes.now c.args.j, slope_above f.problem.settings.now f.proposal.slopes.now c.args.j)

@@ -9,7 +9,7 @@ use Rattle.judge.proofs.fitting.Fitting.ray_sum.Goals as goal
 
 pub total-requires-clause-few : goal.total-requires-clause-few
 total-requires-clause-few g c =
-    omega (arith, entries_few _ (g.met.S.Scan.lawful c.args.self.now.scan.now) c.args.ray)
+    omega (arith, entries_few _ (g.met.S.Scan.lawful c.args.self.now.problem.scan.now) c.args.ray)
 
 pub returns-clause-value : goal.returns-clause-value
 unfolding ray_sum
@@ -19,4 +19,4 @@ pub returns-clause-size : goal.returns-clause-size
 unfolding ray_sum
 returns-clause-size g c =
     let f = c.args.self.now in
-    omega (arith, lin, returns-clause-value g c, ray_sum_low _ (g.met.S.Scan.lawful f.scan.now) f.image.now f.dense c.args.ray (length (ray_at (g.S.Scan.meaning f.scan.now) c.args.ray).entries) (omega arith))
+    omega (arith, lin, returns-clause-value g c, ray_sum_low _ (g.met.S.Scan.lawful f.problem.scan.now) f.proposal.image.now f.dense c.args.ray (length (ray_at (g.S.Scan.meaning f.problem.scan.now) c.args.ray).entries) (omega arith))
