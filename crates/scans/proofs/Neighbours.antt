@@ -1,4 +1,4 @@
--- Each element of a list beside the next, as windows of two give them, and the largest of a list.
+-- Each element of a list beside the next, as windows of two give them, and the largest of a list. Assumes nothing.
 use Rattle.std.proofs.Common.{◌≡◌, ℕ, zero, suc, ◌+◌, ◌-◌, ◌<◌, ◌≤◌, max, Option, List, [], ◌∷◌, length, get_or, take, drop, map, fold, unwrap_or, Bor, sym, refl, ap, ◌∙◌, add-one, length-drop, arith}
 use Rattle.std.specs.List.{zip, reduce}
 use Rattle.std.specs.Ordering.{nat_cmp, max_by_ordering}

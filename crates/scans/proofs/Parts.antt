@@ -1,4 +1,4 @@
--- The part of a table's entries that a ray has, and the first answer of a walk.
+-- The part of a table's entries that a ray has, and the first answer of a walk. Assumes nothing.
 use Rattle.std.proofs.Common.{◌≡◌, ℕ, zero, suc, ◌+◌, ◌-◌, ◌<◌, ◌≤◌, List, length, get_or, take, drop, Some, None, Option, Bor, sym, refl, ap, ◌∙◌, inl, inr, add-one, arith}
 use Rattle.std.specs.Iterator.{Yields}
 use Rattle.std.specs.Option.{option_map, option_or}
