@@ -3,13 +3,14 @@
 ghost use Rattle.std.specs.Prelude.{◌≡◌, Some};
 ghost use Rattle.refusals.specs.declared.Refusal.TheVariants.{OutOfMemory};
 ghost use Rattle.refusals.specs.Telling.{number_of, place_of, words_of, told, same};
+ghost use Rattle.refusals.specs.Laws.{same_laws, same_itself};
 
 use std::alloc::AllocError;
 use std::error::Error;
 use std::fmt;
 
 // Why a call answers nothing. Each case has its number and its place; a refused call has changed nothing.
-#[derive(Clone, Copy, PartialEq, Eq, Debug)]
+#[derive(Clone, Copy)]
 pub enum Refusal {
     OutOfMemory,
     Size,
@@ -119,3 +120,26 @@ impl From<AllocError> for Refusal {
 }
 
 impl Error for Refusal {}
+
+// A refusal is known by its number and its place. (By hand: a derived comparison goes by a jump for each case, and takes
+// longer.)
+impl PartialEq for Refusal {
+    ghost eq = { λ x y. same x y };
+
+    ghost laws = { same_laws };
+
+    fn eq(&self, other: &Refusal) -> bool {
+        self.number() == other.number() && self.place() == other.place()
+    }
+}
+
+impl Eq for Refusal {
+    ghost laws = { same_itself };
+}
+
+// The debug text is the line that a person reads. (By hand: a derived one would be the case.)
+impl fmt::Debug for Refusal {
+    fn fmt<W: fmt::Write>(&self, f: &mut fmt::Formatter<W>) -> fmt::Result {
+        write!(f, "{self}")
+    }
+}
