@@ -1,14 +1,32 @@
--- Laws of finite sums. Assumes nothing.
-use Rattle.std.proofs.Common.{◌≡◌, ℕ, zero, suc, ◌+◌, ◌-◌, ◌*◌, ◌<◌, ◌≤◌, cond, leb, ℤ, pos, ◌+ℤ◌, ◌-ℤ◌, ◌*ℤ◌, ◌≤ℤ◌, sym, refl, ap, ◌∙◌, inl, inr, add-zero, add-suc, add_comm, add-one, arith}
+-- Laws of finite sums, and one turn of a loop that adds up an i64. Assumes nothing.
+use Rattle.std.proofs.Common.{◌≡◌, ℕ, zero, suc, ◌+◌, ◌-◌, ◌*◌, ◌^◌, ◌<◌, ◌≤◌, cond, leb, ℤ, pos, ◌+ℤ◌, ◌-ℤ◌, ◌*ℤ◌, nat_abs, ◌≤ℤ◌, sym, refl, ap, ◌∙◌, inl, inr, add-zero, add-suc, add_comm, add-one, arith, w64, SFits, to_z, of_z}
 use lib.IntN.{+ℤ_idr, *ℤ-zero, zero-*ℤ}
 use Rattle.std.proofs.lemmas.Bool.{cases_eq}
 use Rattle.std.proofs.lemmas.Bool.Decides.{nat_tests}
 use Rattle.algebra.specs.Sums.{sum_to}
 use Rattle.algebra.proofs.Integers.{lin, mul-add, add-mul}
+use Rattle.algebra.proofs.Words.{fits_word, same_bits}
 
 -- one term more
 pub sum_to_more : (i : ℕ) (f : ℕ → ℤ) → sum_to (i + 1) f ≡ sum_to i f +ℤ f i
 sum_to_more i f = rw add-one
+
+-- one turn of a loop over i that adds the answer x to the i64 a, with no term larger than K in size
+pub record Added (f : ℕ → ℤ) (i K : ℕ) (a x : ℤ) : Type 0 where
+  pub fits : SFits w64 (a +ℤ to_z w64 (of_z w64 x))
+  pub value : to_z w64 (of_z w64 (a +ℤ to_z w64 (of_z w64 x))) ≡ sum_to (i + 1) f
+  pub size : nat_abs (to_z w64 (of_z w64 (a +ℤ to_z w64 (of_z w64 x)))) ≤ K * (i + 1)
+
+pub added : (f : ℕ → ℤ) (i K : ℕ) (a x : ℤ) → a ≡ sum_to i f → nat_abs a ≤ K * i → x ≡ f i → nat_abs x ≤ K → K * (i + 1) < 2 ^ 63 → Added f i K a x
+added f i K a x ea sa ex sx room =
+    let same = same_bits x (omega arith) in
+    let size : nat_abs (a +ℤ x) ≤ K * (i + 1) = omega (arith, lin) in
+    let back = same_bits (a +ℤ x) (omega arith) in
+    record {
+      fits = rw same (fits_word (a +ℤ x) (omega arith));
+      value = rw (same, back, sum_to_more i f, ea, ex);
+      size = rw (same, back) size;
+    }
 
 -- sums of equal terms
 pub sum_to_cong : (n : ℕ) (f g : ℕ → ℤ) → ((i : ℕ) → i < n → f i ≡ g i) → sum_to n f ≡ sum_to n g

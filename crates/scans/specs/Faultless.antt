@@ -1,17 +1,17 @@
 -- What a table of rays with no fault keeps to. Assumes nothing.
 use Rattle.std.proofs.Common.{◌≡◌, ℕ, zero, suc, ◌+◌, ◌-◌, ◌<◌, ◌≤◌, Bool, true, false, cond, eqb, ltb, List, [], ◌∷◌, length, is_some, Some, None, Option, refl, ap, add-one, arith, rules, tests, length-drop, length-take}
 use Rattle.std.specs.Option.{option_map, IsNone}
-use Rattle.std.proofs.lemmas.Bool.{eqb-true, ltb-false}
+use Rattle.std.proofs.lemmas.Bool.{and_parts, eqb-true, ltb-false}
 use Rattle.problem.specs.Search.{first_outside, before_at}
 use Rattle.refusals.specs.declared.Refusal.TheVariants.{Rays, Starts, Entry, Reading}
 use Rattle.problem.proofs.Searching.{admitted_from_none, first_none}
-use Rattle.scans.specs.Loading.{start_of, ray_count, ray_entries, start_within, entry_within, reading_within, starts_fault, ray_fault, entries_fault, readings_fault, load_fault}
+use Rattle.scans.specs.Loading.{start_of, ray_count, ray_entries, start_follows, start_within, entry_within, reading_within, starts_fault, ray_fault, entries_fault, readings_fault, load_fault}
 use Rattle.scans.specs.Choosing.{first_some}
 use Rattle.scans.specs.Tables.{largest_count}
 use Rattle.scans.specs.Firsts.{both_none, mapped_none, none_before, none_from_unset, largest_le}
 
 -- a test that must fail for there to be no answer
-other_none : {X : Type 0} (b : Bool) (x : X) (o : Option X) → cond b (Some x) o ≡ None → (b ≡ false) × (o ≡ None)
+pub other_none : {X : Type 0} (b : Bool) (x : X) (o : Option X) → cond b (Some x) o ≡ None → (b ≡ false) × (o ≡ None)
 other_none true x o e = absurd cc
 other_none false x o e = (refl, e)
 
@@ -26,23 +26,26 @@ module _ (rays entries : ℕ) (starts : List ℕ) (none : starts_fault rays entr
   admitted i lt =
       admitted_from_none (start_within rays entries) 0 0 None starts (first_none (eqb (length starts) (rays + 1)) _ 0 none).1 i (omega (arith, starts_length))
 
+  follows_at : (i : ℕ) → i < rays + 1 → start_follows (before_at None starts i 0) (start_of starts i) ≡ true
+  follows_at i lt = (and_parts _ _ (and_parts _ _ (admitted i lt)).0).0
+
   pub start_low : (i : ℕ) → i < rays + 1 → start_of starts i ≤ 65536
   start_low i lt = let h = admitted i lt in search (rules, tests)
 
   follows_last : (i : ℕ) → i < rays → (start_of starts i ≤ start_of starts (i + 1)) × (start_of starts (i + 1) - start_of starts i ≤ 128)
   follows_last i lt =
-      let h = admitted (suc i) (omega arith) in rw add-one (search (rules, tests))
+      let h = follows_at (suc i) (omega arith) in rw add-one (search (rules, tests))
 
   pub starts_rise : (i : ℕ) → i < rays → start_of starts i ≤ start_of starts (i + 1)
   starts_rise i lt = (follows_last i lt).0
 
-  count_low : (i : ℕ) → i < rays → ray_count starts i ≤ 128
+  pub count_low : (i : ℕ) → i < rays → ray_count starts i ≤ 128
   count_low i lt = (follows_last i lt).1
 
   pub counts_low : largest_count rays starts ≤ 128
   counts_low = largest_le (ray_count starts) rays 128 count_low
 
-  last_start : start_of starts rays ≡ entries
+  pub last_start : start_of starts rays ≡ entries
   last_start = let h = admitted rays (omega arith) in let same : 0 + rays ≡ rays = omega arith in search (rules, tests)
 
   from_end : (k i : ℕ) → i + k ≡ rays → start_of starts i ≤ entries

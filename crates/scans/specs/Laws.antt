@@ -19,7 +19,7 @@ all_made P f n h =
     rw (get_or-map-range_with_len f 0 n i i (f 0) in' (omega arith)) (h i in'))
 
 module _ (pixels : ℕ) (starts : List ℕ) (entries : List (ℕ × ℕ)) (readings : List ℕ) (ok : Faultless pixels starts entries readings) where
-  ray_lawful : (i : ℕ) → i < length readings → LawfulRay (table_meaning pixels starts entries readings) (table_ray starts entries readings i)
+  pub ray_lawful : (i : ℕ) → i < length readings → LawfulRay (table_meaning pixels starts entries readings) (table_ray starts entries readings i)
   ray_lawful i lt =
       let clean = ok.no_entry i lt in
       let inner = starts_end (length readings) (length entries) starts ok.no_start (i + 1) (omega arith) in

@@ -6,4 +6,5 @@ pub mod Faultless
 pub mod Crossings
 pub mod Laws
 pub mod Stored
+pub mod Shape
 pub mod Handed

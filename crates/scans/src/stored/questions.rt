@@ -27,6 +27,7 @@ impl Scan for StoredScan {
         self.pixels
     }
 
+    #[tactic(auto, using(crate::specs::Shape::rays_kept))]
     fn rays(&self) -> usize {
         self.readings.len()
     }
@@ -39,6 +40,7 @@ impl Scan for StoredScan {
         self.row(ray).get(k).copied()
     }
 
+    #[tactic(auto, using(crate::proofs::Rows::reading_is))]
     fn reading(&self, ray: usize) -> u32 {
         self.readings.get(ray).copied().unwrap_or(0)
     }
