@@ -4,8 +4,7 @@ use lib.Signed.{mag}
 use Rattle.algebra.specs.Sums.{sum_to}
 use Rattle.algebra.proofs.Sums.{sum_to_more}
 use Rattle.algebra.proofs.Integers.{lin}
-use Rattle.std.proofs.lemmas.Int.{ints}
-use Rattle.algebra.proofs.Words.{same_bits, same_word}
+use Rattle.algebra.proofs.Words.{fits_word, same_bits, same_word}
 use Rattle.judge.specs.Adding.{Answers, NoneLarger, SumOf}
 
 module _ (post : ℕ → ℤ → Type 0) (count i : ℕ) (x y : ℤ) (sum : SumOf post count i x) (there : i < count) (answer : post i y) where
@@ -24,7 +23,7 @@ module _ (post : ℕ → ℤ → Type 0) (count i : ℕ) (x y : ℤ) (sum : SumO
     word = same_bits y (omega (arith, fits i y there answer))
 
     pub sum_fits : SFits w64 (x +ℤ to_z w64 (of_z w64 y))
-    sum_fits = rw word (omega (arith, ints, small))
+    sum_fits = rw word (fits_word (x +ℤ y) small)
 
     pub sum_added : SumOf post count (i + 1) (to_z w64 (of_z w64 (x +ℤ to_z w64 (of_z w64 y))))
     sum_added = rw (word, same_bits (x +ℤ y) small) sum_more

@@ -99,7 +99,9 @@ impl<'a, S: Scan, M: Misfit> Fitting<'a, S, M> {
         low.min(high)
     }
 
-    // Twice the dual value of the ray numbers and the slopes.
+    // Twice the dual value of the ray numbers and the slopes. Not inlined, so that the array below does not stay on the stack of
+    // whoever judges, nor stand there once for each scan and misfit.
+    #[inline(never)]
     #[tactic(auto, using(crate::proofs::Chains::bound_fits, crate::proofs::Chains::bound_is, crate::proofs::Chains::bound_low), unfolding(problem::specs::Bound::bound))]
     pub(crate) fn bound(&self) -> i64
         ensures value { result ≡ bound (problem_of S.Scan.meaning M.Misfit.meaning self.now.problem) self.now.proposal.ray_numbers.now self.now.proposal.slopes.now }

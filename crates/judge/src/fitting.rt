@@ -1,6 +1,7 @@
 ghost use Rattle.std.specs.Prelude.{◌≡◌, ◌*◌, length, Ok, Err, IfOk, IfErr};
 ghost use Rattle.problem.specs.Setting.{pixel_count};
 ghost use Rattle.problem.specs.Posed.{problem_of, proposal_of};
+ghost use Rattle.problem.specs.Fitting.{Fits};
 ghost use Rattle.judge.specs.Sizes.{Dense, Sized};
 ghost use Rattle.judge.specs.Judging.{judged, verdict_of};
 
@@ -13,10 +14,12 @@ use problem::scan::Scan;
 use refusals::Refusal;
 
 // A problem with a proposal that fits it: each list has its length, and each number is within its limits.
+// Beside that stand the facts that the sums rest on, one by one.
 #[derive(Drop)]
 pub(crate) struct Fitting<'a, S: Scan, M: Misfit> {
     pub problem: Problem<'a, S, M>,
     pub proposal: Proposal<'a>,
+    ghost fits: { Fits (problem_of S.Scan.meaning M.Misfit.meaning problem) (proposal_of proposal) },
     ghost pixels: { pixel_count problem.settings.now ≡ (S.Scan.meaning problem.scan.now).pixels },
     ghost full: { length proposal.image.now ≡ pixel_count problem.settings.now },
     ghost dense: { Dense proposal.image.now },
@@ -28,6 +31,7 @@ pub(crate) struct Fitting<'a, S: Scan, M: Misfit> {
 
 impl<'a, S: Scan, M: Misfit> Fitting<'a, S, M> {
     // The problem with the proposal, or the first thing that does not fit.
+    #[tactic(auto, using(crate::proofs::Accepting::fits_if_accepted))]
     pub(crate) fn check(
         problem: &Problem<'a, S, M>,
         proposal: &Proposal<'a>,
